@@ -1,0 +1,6 @@
+pub mod Call
+pub mod Layout
+pub mod Read
+pub mod Write
+pub mod Statements
+pub mod Meaning

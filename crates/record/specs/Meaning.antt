@@ -1,0 +1,81 @@
+-- What each case of the code's enums means: document 01's numbers and values.
+use Prim.Native.Nat.{ℕ, _+_, _≤_}
+use mathlib.Core.List.{List}
+use mathlib.Core.Option.{Option, none, some}
+use lib.ListN.{length, take, drop}
+use Rattle.record.specs.declared.Part.{Part}
+use Rattle.record.specs.declared.Call as code
+use Rattle.record.specs.declared.Call.the-variants.{Create, Start, Yield, Exit, HeapWrite, HeapRead, SharedWrite, SharedRead, Attest, Check, Protect, Retrieve, Report}
+use Rattle.record.specs.declared.Reading as found
+use Rattle.record.specs.declared.Reading.the-variants.{Whole, Cut, UnknownKind, WrongMap}
+use Rattle.record.specs.declared.LegalMap as legal
+use Rattle.record.specs.declared.LegalMap.the-variants.{Map, NoSuchKind}
+use Rattle.record.specs.declared.Written as wrote
+use Rattle.record.specs.declared.Written.the-variants.{Length, Unknown, NoRoom}
+use Rattle.record.specs.Call.{Call, create, start, yield, exit, heapWrite, heapRead, sharedWrite, sharedRead, attest, check, protect, retrieve, report}
+use Rattle.record.specs.Read.{Reading, whole, cut, unknown, wrongMap}
+
+-- the bytes of a bytes field
+unfoldable pub bytesIn : List ℕ → Part → List ℕ
+bytesIn bs p = take (p .count) (drop (p .start) bs)
+
+-- the call of a record's bytes
+unfoldable pub callIn : List ℕ → code.Call → Call
+callIn bs (Create p i) = create p i
+callIn bs (Start p) = start p
+callIn bs Yield = yield
+callIn bs Exit = exit
+callIn bs (HeapWrite p o v) = heapWrite p o (bytesIn bs v)
+callIn bs (HeapRead p o n) = heapRead p o n
+callIn bs (SharedWrite o v) = sharedWrite o (bytesIn bs v)
+callIn bs (SharedRead o n) = sharedRead o n
+callIn bs (Attest o n) = attest o n
+callIn bs (Check i g v) = check i g (bytesIn bs v)
+callIn bs (Protect i o n d) = protect i o n d
+callIn bs (Retrieve i o h) = retrieve i o h
+callIn bs Report = report
+
+unfoldable pub readingIn : List ℕ → found.Reading → Reading
+readingIn bs (Whole c used) = whole (callIn bs c) used
+readingIn bs Cut = cut
+readingIn bs UnknownKind = unknown
+readingIn bs WrongMap = wrongMap
+
+-- a bytes field lies within the record
+unfoldable pub PartWithin : List ℕ → Part → Type 0
+PartWithin bs p = p .start + p .count ≤ length bs
+
+unfoldable pub CallWithin : List ℕ → code.Call → Type 0
+CallWithin bs (Create p i) = ⊤
+CallWithin bs (Start p) = ⊤
+CallWithin bs Yield = ⊤
+CallWithin bs Exit = ⊤
+CallWithin bs (HeapWrite p o v) = PartWithin bs v
+CallWithin bs (HeapRead p o n) = ⊤
+CallWithin bs (SharedWrite o v) = PartWithin bs v
+CallWithin bs (SharedRead o n) = ⊤
+CallWithin bs (Attest o n) = ⊤
+CallWithin bs (Check i g v) = PartWithin bs v
+CallWithin bs (Protect i o n d) = ⊤
+CallWithin bs (Retrieve i o h) = ⊤
+CallWithin bs Report = ⊤
+
+unfoldable pub Within : List ℕ → found.Reading → Type 0
+Within bs (Whole c used) = CallWithin bs c × (used ≤ length bs)
+Within bs Cut = ⊤
+Within bs UnknownKind = ⊤
+Within bs WrongMap = ⊤
+
+unfoldable pub legalMap : legal.LegalMap → Option ℕ
+legalMap (Map m) = some m
+legalMap NoSuchKind = none
+
+unfoldable pub writtenCode : wrote.Written → ℕ
+writtenCode (Length n) = 0
+writtenCode Unknown = 2
+writtenCode NoRoom = 17
+
+unfoldable pub writtenLength : wrote.Written → ℕ
+writtenLength (Length n) = n
+writtenLength Unknown = 0
+writtenLength NoRoom = 0

@@ -1,0 +1,39 @@
+-- What is proved of the reader's and the writer's definitions. The proofs are in proofs/RoundTrip.antt.
+use Prim.Native.Nat.{ℕ, _+_, _≤_, _<_, _^_}
+use mathlib.Core.Path.{_≡_}
+use mathlib.Core.List.{List, _++_}
+use lib.ListN.{length, getD, take}
+use Rattle.record.specs.declared.Fields.{Fields}
+use Rattle.record.specs.Call.{Call}
+use Rattle.record.specs.Read.{read, whole}
+use Rattle.record.specs.Write.{filled, write}
+
+-- the numbers fit their fields, and the count of bytes fits its own
+pub record Fit (f : Fields) (v : List ℕ) : Type 0 where
+  pub place : f .place < 256
+  pub identity : f .identity < 2 ^ 64
+  pub offset : f .offset < 65536
+  pub size : f .length < 65536
+  pub number : f .number < 2 ^ 64
+  pub count : length v < 65536
+
+abbrev pub Fits : Call → Type 0
+Fits c = Fit (filled c .fields) (filled c .bytes)
+
+-- every element is a byte
+abbrev pub Bytes : List ℕ → Type 0
+Bytes bs = (k : ℕ) → k < length bs → getD bs k 0 < 256
+
+-- reading a written record, whatever follows it, returns the call and the record's length
+pub ReadsBack : Type 0
+ReadsBack = (c : Call) → Fits c → (rest : List ℕ) → read (write c ++ rest) ≡ whole c (length (write c))
+
+-- a record that reads to a call is, in the bytes used, what the writer writes for that call
+pub record OneRecordOf (bs : List ℕ) (c : Call) (used : ℕ) : Type 0 where
+  pub within : used ≤ length bs
+  pub fits : Fits c
+  pub same : take used bs ≡ write c
+
+-- each call has one record
+pub OneRecord : Type 0
+OneRecord = (bs : List ℕ) (c : Call) (used : ℕ) → Bytes bs → read bs ≡ whole c used → OneRecordOf bs c used

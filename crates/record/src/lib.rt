@@ -1,0 +1,68 @@
+// Call records: a map byte, then the fields whose bit stands, lowest byte first.
+mod kinds;
+
+use fnv::Tag;
+
+pub struct Handle(pub u64);
+
+pub struct Draw(pub u64);
+
+// A bytes field: where it starts in the record, and how many bytes it has.
+pub struct Part {
+    pub start: usize,
+    pub count: u16,
+}
+
+// A call: a kind and the fields of its map, no others.
+pub enum Call {
+    Create { place: u8, identity: u64 },
+    Start { place: u8 },
+    Yield,
+    Exit,
+    HeapWrite { place: u8, offset: u16, bytes: Part },
+    HeapRead { place: u8, offset: u16, length: u16 },
+    SharedWrite { offset: u16, bytes: Part },
+    SharedRead { offset: u16, length: u16 },
+    Attest { offset: u16, length: u16 },
+    Check { identity: u64, tag: Tag, bytes: Part },
+    Protect { identity: u64, offset: u16, length: u16, draw: Draw },
+    Retrieve { identity: u64, offset: u16, handle: Handle },
+    Report,
+}
+
+// What the reader finds.
+pub enum Reading {
+    // A call, and how many bytes its record has.
+    Whole { call: Call, used: usize },
+    // The record ends before a field does, or is empty.
+    Cut,
+    // The kind is missing or is none of the thirteen.
+    UnknownKind,
+    // The map isn't the kind's.
+    WrongMap,
+}
+
+// The numbers in a record's fields; 0 in a field that the map lacks.
+pub struct Fields {
+    pub place: u8,
+    pub identity: u64,
+    pub offset: u16,
+    pub length: u16,
+    pub number: u64,
+}
+
+// A kind's one legal map.
+pub enum LegalMap {
+    Map(u8),
+    NoSuchKind,
+}
+
+// What the writer answers.
+pub enum Written {
+    // The record's length.
+    Length(usize),
+    // There is no such kind.
+    Unknown,
+    // The buffer is shorter than the record, or the bytes are more than a count of 2 bytes can say.
+    NoRoom,
+}
