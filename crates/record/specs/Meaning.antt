@@ -46,25 +46,25 @@ unfoldable pub PartWithin : List ℕ → Part → Type 0
 PartWithin bs p = p .start + p .count ≤ length bs
 
 unfoldable pub CallWithin : List ℕ → code.Call → Type 0
-CallWithin bs (Create p i) = ⊤
-CallWithin bs (Start p) = ⊤
-CallWithin bs Yield = ⊤
-CallWithin bs Exit = ⊤
+CallWithin bs (Create p i) = Unit {0}
+CallWithin bs (Start p) = Unit {0}
+CallWithin bs Yield = Unit {0}
+CallWithin bs Exit = Unit {0}
 CallWithin bs (HeapWrite p o v) = PartWithin bs v
-CallWithin bs (HeapRead p o n) = ⊤
+CallWithin bs (HeapRead p o n) = Unit {0}
 CallWithin bs (SharedWrite o v) = PartWithin bs v
-CallWithin bs (SharedRead o n) = ⊤
-CallWithin bs (Attest o n) = ⊤
+CallWithin bs (SharedRead o n) = Unit {0}
+CallWithin bs (Attest o n) = Unit {0}
 CallWithin bs (Check i g v) = PartWithin bs v
-CallWithin bs (Protect i o n d) = ⊤
-CallWithin bs (Retrieve i o h) = ⊤
-CallWithin bs Report = ⊤
+CallWithin bs (Protect i o n d) = Unit {0}
+CallWithin bs (Retrieve i o h) = Unit {0}
+CallWithin bs Report = Unit {0}
 
 unfoldable pub Within : List ℕ → found.Reading → Type 0
 Within bs (Whole c used) = CallWithin bs c × (used ≤ length bs)
-Within bs Cut = ⊤
-Within bs UnknownKind = ⊤
-Within bs WrongMap = ⊤
+Within bs Cut = Unit {0}
+Within bs UnknownKind = Unit {0}
+Within bs WrongMap = Unit {0}
 
 unfoldable pub legalMap : legal.LegalMap → Option ℕ
 legalMap (Map m) = some m

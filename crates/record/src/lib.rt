@@ -15,18 +15,53 @@ pub struct Part {
 
 // A call: a kind and the fields of its map, no others.
 pub enum Call {
-    Create { place: u8, identity: u64 },
-    Start { place: u8 },
+    Create {
+        place: u8,
+        identity: u64,
+    },
+    Start {
+        place: u8,
+    },
     Yield,
     Exit,
-    HeapWrite { place: u8, offset: u16, bytes: Part },
-    HeapRead { place: u8, offset: u16, length: u16 },
-    SharedWrite { offset: u16, bytes: Part },
-    SharedRead { offset: u16, length: u16 },
-    Attest { offset: u16, length: u16 },
-    Check { identity: u64, tag: Tag, bytes: Part },
-    Protect { identity: u64, offset: u16, length: u16, draw: Draw },
-    Retrieve { identity: u64, offset: u16, handle: Handle },
+    HeapWrite {
+        place: u8,
+        offset: u16,
+        bytes: Part,
+    },
+    HeapRead {
+        place: u8,
+        offset: u16,
+        length: u16,
+    },
+    SharedWrite {
+        offset: u16,
+        bytes: Part,
+    },
+    SharedRead {
+        offset: u16,
+        length: u16,
+    },
+    Attest {
+        offset: u16,
+        length: u16,
+    },
+    Check {
+        identity: u64,
+        tag: Tag,
+        bytes: Part,
+    },
+    Protect {
+        identity: u64,
+        offset: u16,
+        length: u16,
+        draw: Draw,
+    },
+    Retrieve {
+        identity: u64,
+        offset: u16,
+        handle: Handle,
+    },
     Report,
 }
 

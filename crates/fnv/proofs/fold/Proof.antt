@@ -37,9 +37,10 @@ unfolding fnvFrom
 loop-again c =
     let s = c .before .before .before .before .before .args .s .now in
     let i = c .before .before .before .loop .i in
-    let l : i < length s = omega arith in
-    (omega arith,
-    simp (add-one, c .mix .ensures) (rw (drop-cons s i 0 l) at (c .before .before .before .loop .inv .1)))
+    let l : i < length s = omega arith in (
+      omega arith,
+      simp (add-one, c .mix .ensures) (rw (drop-cons s i 0 l) at (c .before .before .before .loop .inv .1)),
+    )
 
 returns : tie.Need-returns Inv-loop μ-loop
 unfolding fnvFrom

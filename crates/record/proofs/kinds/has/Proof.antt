@@ -1,16 +1,15 @@
 use borrow.Author.Needs.{needs}
+use mathlib.Core.Path.{refl}
+use Rattle.record.specs.Layout.{stands}
 use Rattle.record.proofs.kinds.has.Statement.{statement}
 use Rattle.record.proofs.kinds.has.Tie as tie
-use Rattle.record.proofs.kinds.has.Reads as reads
-use Rattle.record.proofs.kinds.has.Lts as lts
 
--- src/kinds.rt:32:6
 shr-result : tie.Need-shr-result
 shr-result c = search needs
 
--- src/kinds.rt:28:1
 returns : tie.Need-returns
-returns c = ?
+unfolding stands
+returns c = refl
 
 pub has-spec : {M : Type 1} → statement M
 has-spec = tie.close (tie.spec shr-result returns)

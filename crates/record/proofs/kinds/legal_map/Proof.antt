@@ -1,59 +1,83 @@
+use Rattle.record.specs.Layout.{kinds, among, kindOf, mapIn, mapOf}
+use Rattle.record.specs.Meaning.{legalMap}
+use Rattle.record.proofs.KindTable.{no-more, and-not, no-kind}
 use Rattle.record.proofs.kinds.legal_map.Statement.{statement}
 use Rattle.record.proofs.kinds.legal_map.Tie as tie
-use Rattle.record.proofs.kinds.legal_map.Reads as reads
-use Rattle.record.proofs.kinds.legal_map.Lts as lts
 
--- src/kinds.rt:8:1
 returns : tie.Need-returns
-returns c = ?
+unfolding legalMap mapOf mapIn kindOf among kinds
+returns c = rw (c .match .keys2)
 
--- src/kinds.rt:8:1
 returns-2 : tie.Need-returns-2
-returns-2 c = ?
+unfolding legalMap mapOf mapIn kindOf among kinds
+returns-2 c = rw (c .match .keys3)
 
--- src/kinds.rt:8:1
 returns-3 : tie.Need-returns-3
-returns-3 c = ?
+unfolding legalMap mapOf mapIn kindOf among kinds
+returns-3 c = rw (c .match .keys4)
 
--- src/kinds.rt:8:1
 returns-4 : tie.Need-returns-4
-returns-4 c = ?
+unfolding legalMap mapOf mapIn kindOf among kinds
+returns-4 c = rw (c .match .keys5)
 
--- src/kinds.rt:8:1
 returns-5 : tie.Need-returns-5
-returns-5 c = ?
+unfolding legalMap mapOf mapIn kindOf among kinds
+returns-5 c = rw (c .match .keys6)
 
--- src/kinds.rt:8:1
 returns-6 : tie.Need-returns-6
-returns-6 c = ?
+unfolding legalMap mapOf mapIn kindOf among kinds
+returns-6 c = rw (c .match .keys7)
 
--- src/kinds.rt:8:1
 returns-7 : tie.Need-returns-7
-returns-7 c = ?
+unfolding legalMap mapOf mapIn kindOf among kinds
+returns-7 c = rw (c .match .keys8)
 
--- src/kinds.rt:8:1
 returns-8 : tie.Need-returns-8
-returns-8 c = ?
+unfolding legalMap mapOf mapIn kindOf among kinds
+returns-8 c = rw (c .match .keys9)
 
--- src/kinds.rt:8:1
 returns-9 : tie.Need-returns-9
-returns-9 c = ?
+unfolding legalMap mapOf mapIn kindOf among kinds
+returns-9 c = rw (c .match .keys10)
 
--- src/kinds.rt:8:1
 returns-10 : tie.Need-returns-10
-returns-10 c = ?
+unfolding legalMap mapOf mapIn kindOf among kinds
+returns-10 c = rw (c .match .keys11)
 
--- src/kinds.rt:8:1
 returns-11 : tie.Need-returns-11
-returns-11 c = ?
+unfolding legalMap mapOf mapIn kindOf among kinds
+returns-11 c = rw (c .match .keys12)
 
--- src/kinds.rt:8:1
 returns-12 : tie.Need-returns-12
-returns-12 c = ?
+unfolding legalMap mapOf mapIn kindOf among kinds
+returns-12 c = rw (c .match .keys13)
 
--- src/kinds.rt:8:1
 returns-13 : tie.Need-returns-13
-returns-13 c = ?
+unfolding legalMap mapOf mapIn kindOf among kinds
+returns-13 c = rw (c .match .keys14)
+
+returns-14 : tie.Need-returns-14
+unfolding legalMap mapOf mapIn kindOf among kinds
+returns-14 c = rw (c .match .keys1)
+
+returns-15 : tie.Need-returns-15
+unfolding legalMap mapOf mapIn kinds
+returns-15 c =
+    let r = c .match .rest in
+    rw (no-kind
+    (and-not (r .0 .0 .0 .0 .0 .0 .0 .0 .0 .0 .0 .0 .1)
+    (and-not (r .0 .0 .0 .0 .0 .0 .0 .0 .0 .0 .0 .1)
+    (and-not (r .0 .0 .0 .0 .0 .0 .0 .0 .0 .0 .1)
+    (and-not (r .0 .0 .0 .0 .0 .0 .0 .0 .0 .1)
+    (and-not (r .0 .0 .0 .0 .0 .0 .0 .0 .1)
+    (and-not (r .0 .0 .0 .0 .0 .0 .0 .1)
+    (and-not (r .0 .0 .0 .0 .0 .0 .1)
+    (and-not (r .0 .0 .0 .0 .0 .1)
+    (and-not (r .0 .0 .0 .0 .1)
+    (and-not (r .0 .0 .0 .1)
+    (and-not (r .0 .0 .1)
+    (and-not (r .0 .1)
+    (and-not (r .1) no-more))))))))))))))
 
 pub legal-map-spec : {M : Type 1} → statement M
 legal-map-spec =
@@ -71,4 +95,6 @@ legal-map-spec =
     returns-10
     returns-11
     returns-12
-    returns-13)
+    returns-13
+    returns-14
+    returns-15)
