@@ -1,1 +1,5 @@
 pub mod KindTable
+pub mod LittleEndian
+pub mod FieldLaws
+pub mod KindRows
+pub mod RoundTrip

@@ -25,7 +25,7 @@ abbrev pub Bytes : List ℕ → Type 0
 Bytes bs = (k : ℕ) → k < length bs → getD bs k 0 < 256
 
 -- reading a written record, whatever follows it, returns the call and the record's length
-pub ReadsBack : Type 0
+unfoldable pub ReadsBack : Type 0
 ReadsBack = (c : Call) → Fits c → (rest : List ℕ) → read (write c ++ rest) ≡ whole c (length (write c))
 
 -- a record that reads to a call is, in the bytes used, what the writer writes for that call
@@ -35,5 +35,5 @@ pub record OneRecordOf (bs : List ℕ) (c : Call) (used : ℕ) : Type 0 where
   pub same : take used bs ≡ write c
 
 -- each call has one record
-pub OneRecord : Type 0
+unfoldable pub OneRecord : Type 0
 OneRecord = (bs : List ℕ) (c : Call) (used : ℕ) → Bytes bs → read bs ≡ whole c used → OneRecordOf bs c used

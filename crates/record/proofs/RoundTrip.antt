@@ -1,0 +1,93 @@
+-- A written record is read back, and a record that reads to a call is what is written for it. Assumes nothing.
+use Prim.Native.Nat.{ℕ, suc, _+_, _-_}
+use mathlib.Core.Path.{_≡_, refl, sym, ap, _∙_}
+use mathlib.Core.List.{List, [], _∷_, _++_}
+use mathlib.Core.Option.{Option, none, some}
+use native.Mathlib.Omega.{arith}
+use lib.Dec.{eqb}
+use lib.ListN.{length, take, length-append}
+use lib.Seq.{take-at}
+use borrow.Author.Tests.{eq-eqb, eqb-true}
+use Rattle.record.specs.declared.Fields.{Fields}
+use Rattle.record.specs.Call.{Call}
+use Rattle.record.specs.Layout.{Kind, stands, kindOf}
+use Rattle.record.specs.Read.{whole, cut, unknown, wrongMap, read, afterMap, readKind, readFields}
+use Rattle.record.specs.Write.{Filled, only, recordOf, filled, recordIn, write}
+use Rattle.record.specs.Statements.{Fit, ReadsBack, OneRecord}
+use Rattle.record.proofs.FieldLaws.{fieldBytes, kept, fields-back, fields-from, by-cases, not-refused}
+use Rattle.record.proofs.KindRows.{Row, row-of, made}
+
+front : (k : Kind) (f : Fields) (v : List ℕ) → recordOf k f v ≡ k .map ∷ k .number ∷ fieldBytes k f v
+unfolding recordOf fieldBytes
+front k f v = refl
+
+module _ (k : Kind) (row : Row k) (f : Fields) (v : List ℕ) where
+  read-record : (rest : List ℕ) → Fit f v
+      → read (recordOf k f v ++ rest)
+      ≡ whole (k .call (kept (k .map) f) (only (stands (k .map) 6) v)) (length (recordOf k f v))
+  unfolding read afterMap readKind readFields
+  read-record rest fit =
+      let bs = fieldBytes k f v in
+      let sum = length-append bs rest in
+      let used : 1 + suc (length (bs ++ rest)) - length rest ≡ suc (suc (length bs)) = omega arith in
+      rw (front k f v, row .first, row .found, eq-eqb (k .map) _ refl) (fields-back k f v _ rest fit ∙ rw used)
+
+  write-record : kept (k .map) f ≡ f → only (stands (k .map) 6) v ≡ v → write (k .call f v) ≡ recordOf k f v
+  unfolding write recordIn
+  write-record absent absent-bytes = rw (row .fills f v, row .found, absent, absent-bytes)
+
+pub reads-back : ReadsBack
+unfolding ReadsBack write recordIn
+reads-back c fit rest =
+    let (k, found, same) = made c in
+    let row = row-of found .0 in
+    let own = sym (row .fills (filled c .fields) (filled c .bytes)) ∙ ap filled same in
+    rw found
+    (read-record k row _ _ rest fit
+    ∙ rw (ap (λ (x : Filled). x .fields) own, ap (λ (x : Filled). x .bytes) own, same))
+
+kind-known : {P : Type 0} (total map : ℕ) (o : Option Kind) (bs : List ℕ) {c : Call} {used : ℕ}
+    → readKind total map o bs ≡ whole c used
+    → ((k : Kind) → o ≡ some k → k .map ≡ map → readFields total k bs ≡ whole c used → P)
+    → P
+unfolding readKind unknown wrongMap
+kind-known total map none bs e go = not-refused e
+kind-known total map (some k) bs e go =
+    by-cases (eqb (k .map) map) (λ t. go k refl (eqb-true _ _ t) (rw t at e)) (λ t. not-refused (rw t at e))
+
+-- what was read whole begins with the map and the number of a kind
+kind-from : {P : Type 0} (bs : List ℕ) {c : Call} {used : ℕ}
+    → read bs ≡ whole c used
+    → ((k : Kind) (bs′ : List ℕ) → Row k → bs ≡ k .map ∷ k .number ∷ bs′ → readFields (length bs) k bs′ ≡ whole c used → P)
+    → P
+unfolding read afterMap unknown cut
+kind-from [] e go = not-refused e
+kind-from (map ∷ []) e go = by-cases (stands map 0) (λ t. not-refused (rw t at e)) (λ t. not-refused (rw t at e))
+kind-from (map ∷ (n ∷ bs)) e go =
+    by-cases (stands map 0)
+    (λ t.
+    kind-known _ map (kindOf n) bs (rw t at e) λ k found same e′.
+    let (row, number) = row-of found in
+    let total : 1 + suc (length bs) ≡ suc (suc (length bs)) = omega arith in
+    go k bs row (rw (same, number)) (rw total at e′))
+    (λ t. not-refused (rw t at e))
+
+pub one-record : OneRecord
+unfolding OneRecord readFields
+one-record bs c used h e =
+    kind-from bs e λ k bs′ row split e′.
+    fields-from k (λ i l. rw split at h (suc (suc i)) (omega arith)) e′ λ f v rest b e″.
+    let call : k .call f v ≡ c = cc in
+    let left : length bs - length rest ≡ used = cc in
+    let bytes : bs ≡ recordOf k f v ++ rest = rw (front k f v, split, b .split) in
+    let sum = ap length bytes ∙ length-append (recordOf k f v) rest in
+    let l : length (recordOf k f v) ≡ length bs - length rest = omega arith in
+    rw (← call, ← left)
+    (record {
+      within = omega arith;
+      fits = rw (row .fills f v, b .absent, b .absent-bytes) (b .fit);
+      same =
+          ap (take (length bs - length rest)) bytes
+          ∙ take-at _ rest _ l
+          ∙ sym (write-record k row f v (b .absent) (b .absent-bytes));
+    })
