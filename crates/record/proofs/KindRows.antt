@@ -1,16 +1,18 @@
 -- The table of kinds and a call's fields are inverse to each other. Assumes nothing.
 use Prim.Native.Nat.{ℕ}
 use mathlib.Core.Path.{_≡_, refl}
-use mathlib.Core.Bool.{true}
-use mathlib.Core.List.{List, [], _∷_}
+use mathlib.Core.Bool.{Bool, true, false, cond}
+use mathlib.Core.List.{List, [], _∷_, _++_}
 use mathlib.Core.Option.{some}
 use native.Mathlib.Omega.{arith}
 use lib.Dec.{eqb}
+use lib.ListN.{length}
 use borrow.Author.Tests.{eqb-true}
+use Rattle.fnv.specs.Fnv.{little}
 use Rattle.record.specs.declared.Fields.{Fields}
 use Rattle.record.specs.Call.{Call, create, start, yield, exit, heapWrite, heapRead, sharedWrite, sharedRead, attest, check, protect, retrieve, report}
 use Rattle.record.specs.Layout.{Kind, stands, kinds, among, kindOf}
-use Rattle.record.specs.Write.{only, filled}
+use Rattle.record.specs.Write.{only, recordOf, filled, recordIn, write}
 use Rattle.record.proofs.FieldLaws.{kept, by-cases}
 
 -- a row is found by its number, bit 0 of its map stands, and its call has the fields of its map, all of them and no others
@@ -58,3 +60,19 @@ made (check i g v) = (_, refl, refl)
 made (protect i o n d) = (_, refl, refl)
 made (retrieve i o h) = (_, refl, refl)
 made report = (_, refl, refl)
+
+-- a field that its map lacks is not written, whatever stands in it
+kept-number : (here : Bool) (n x : ℕ) → only here (little n (cond here x 0)) ≡ only here (little n x)
+unfolding only
+kept-number true n x = refl
+kept-number false n x = refl
+
+kept-bytes : (here : Bool) (v : List ℕ) → only here (little 2 (length (only here v)) ++ only here v) ≡ only here (little 2 (length v) ++ v)
+unfolding only
+kept-bytes true v = refl
+kept-bytes false v = refl
+
+-- what a call drops of the fields, its record lacks
+pub written : (k : Kind) → Row k → (f : Fields) (v : List ℕ) → write (k .call f v) ≡ recordOf k f v
+unfolding write recordIn recordOf kept
+written k row f v = rw (row .fills f v, row .found, kept-bytes) (simp kept-number)

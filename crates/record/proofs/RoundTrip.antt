@@ -15,7 +15,7 @@ use Rattle.record.specs.Read.{whole, cut, unknown, wrongMap, read, after
 use Rattle.record.specs.Write.{Filled, only, recordOf, filled, recordIn, write}
 use Rattle.record.specs.Statements.{Fit, ReadsBack, OneRecord}
 use Rattle.record.proofs.FieldLaws.{fieldBytes, kept, fields-back, fields-from, by-cases, not-refused}
-use Rattle.record.proofs.KindRows.{Row, row-of, made}
+use Rattle.record.proofs.KindRows.{Row, row-of, made, written}
 
 front : (k : Kind) (f : Fields) (v : List ℕ) → recordOf k f v ≡ k .map ∷ k .number ∷ fieldBytes k f v
 unfolding recordOf fieldBytes
@@ -31,10 +31,6 @@ module _ (k : Kind) (row : Row k) (f : Fields) (v : List ℕ) where
       let sum = length-append bs rest in
       let used : 1 + suc (length (bs ++ rest)) - length rest ≡ suc (suc (length bs)) = omega arith in
       rw (front k f v, row .first, row .found, eq-eqb (k .map) _ refl) (fields-back k f v _ rest fit ∙ rw used)
-
-  write-record : kept (k .map) f ≡ f → only (stands (k .map) 6) v ≡ v → write (k .call f v) ≡ recordOf k f v
-  unfolding write recordIn
-  write-record absent absent-bytes = rw (row .fills f v, row .found, absent, absent-bytes)
 
 pub reads-back : ReadsBack
 unfolding ReadsBack write recordIn
@@ -89,5 +85,5 @@ one-record bs c used h e =
       same =
           ap (take (length bs - length rest)) bytes
           ∙ take-at _ rest _ l
-          ∙ sym (write-record k row f v (b .absent) (b .absent-bytes));
+          ∙ sym (written k row f v);
     })

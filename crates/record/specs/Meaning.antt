@@ -14,6 +14,7 @@ use Rattle.record.specs.declared.Written as wrote
 use Rattle.record.specs.declared.Written.the-variants.{Length, Unknown, NoRoom}
 use Rattle.record.specs.Call.{Call, create, start, yield, exit, heapWrite, heapRead, sharedWrite, sharedRead, attest, check, protect, retrieve, report}
 use Rattle.record.specs.Read.{Reading, whole, cut, unknown, wrongMap}
+use Rattle.record.specs.Write.{Outcome}
 
 -- the bytes of a bytes field
 unfoldable pub bytesIn : List ℕ → Part → List ℕ
@@ -79,3 +80,7 @@ unfoldable pub writtenLength : wrote.Written → ℕ
 writtenLength (Length n) = n
 writtenLength Unknown = 0
 writtenLength NoRoom = 0
+
+-- the writer's answer, with what its buffer then holds
+unfoldable pub wroteOn : wrote.Written → List ℕ → Outcome
+wroteOn w buffer = record { code = writtenCode w; length = writtenLength w; buffer = buffer }

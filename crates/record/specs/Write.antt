@@ -72,11 +72,15 @@ refusedWrite code buffer = record { code = code; length = 0; buffer = buffer }
 unfoldable pub placed : List ℕ → List ℕ → Outcome
 placed r buffer = record { code = 0; length = length r; buffer = r ++ drop (length r) buffer }
 
+-- the bytes are more than a count of 2 bytes can say, in a record that has them
+abbrev pub tooMany : ℕ → ℕ → Bool
+tooMany map count = stands map 6 && ltb 65535 count
+
 -- 17: a bytes field over 65,535, or the buffer is shorter than the record
 unfoldable pub writeKind : Option Kind → Fields → List ℕ → List ℕ → Outcome
 writeKind none f v buffer = refusedWrite 2 buffer
 writeKind (some k) f v buffer =
-    cond ((stands (k .map) 6 && ltb 65535 (length v)) || ltb (length buffer) (length (write (k .call f v))))
+    cond (tooMany (k .map) (length v) || ltb (length buffer) (length (write (k .call f v))))
     (refusedWrite 17 buffer)
     (placed (write (k .call f v)) buffer)
 

@@ -1,5 +1,8 @@
 // Call records: a map byte, then the fields whose bit stands, lowest byte first.
 mod kinds;
+mod write;
+
+pub use write::write_call;
 
 use fnv::Tag;
 
