@@ -2,9 +2,8 @@
 mod kinds;
 mod write;
 
-pub use write::write_call;
-
 use fnv::Tag;
+pub use write::write_call;
 
 pub struct Handle(pub u64);
 
