@@ -1,11 +1,13 @@
--- A number and its bytes, lowest first: each fixes the other. Assumes nothing.
-use Prim.Native.Nat.{ℕ, zero, suc, _/_, _^_, _<_}
+-- A number and its bytes, lowest first: each fixes the other, and one byte more. Assumes nothing.
+use Prim.Native.Nat.{ℕ, zero, suc, _+_, _*_, _-_, _/_, _^_, _≤_, _<_}
 use mathlib.Core.Path.{_≡_, refl, ap}
 use mathlib.Core.List.{List, [], _∷_}
-use native.Mathlib.Nat.{zero-add, pow-suc, mod-add-div, div-lt-iff-lt-mul}
+use native.Mathlib.Nat.{zero-add, pow-suc, pow-succ', pow-le-pow-right, mod-add-div, div-lt-iff-lt-mul}
 use native.Mathlib.Nat.{add-mul-mod-self-left, add-mul-div-left, mod-eq-of-lt, div-eq-of-lt}
+use native.Mathlib.Numerals.{add-one}
 use native.Mathlib.Omega.{arith}
-use lib.ListN.{length}
+use lib.ListN.{length, getD, take, drop}
+use lib.Seq.{drop-cons}
 use Rattle.fnv.specs.Fnv.{little}
 use Rattle.record.specs.Read.{fromLittle}
 use Rattle.record.specs.Statements.{Bytes}
@@ -44,3 +46,30 @@ little-from (b ∷ bs) h =
       zero-add,
       rest,
     )
+
+-- the highest i bytes of w, and the byte below them
+pub byte-more : (bs : List ℕ) (at w i : ℕ) → i < w → at + w ≤ length bs
+    → fromLittle (take (i + 1) (drop (at + (w - (i + 1))) bs))
+    ≡ getD bs (at + (w - 1 - i)) 0 + 256 * fromLittle (take i (drop (at + (w - i)) bs))
+unfolding fromLittle
+byte-more bs at w i l h =
+    let k = at + (w - 1 - i) in
+    let e : at + (w - (i + 1)) ≡ k = omega arith in
+    let s : at + (w - i) ≡ suc k = omega arith in
+    let below : k < length bs = omega arith in
+    rw (e, s, add-one, drop-cons bs k 0 below)
+
+pub below-more : {x b : ℕ} (n : ℕ) → x < 256 ^ n → b < 256 → x * 256 + b < 256 ^ (n + 1)
+below-more {x} {b} n h l = rw (add-one, pow-succ') (omega arith)
+
+-- the highest seven bytes leave room for another
+pub below-seven : {x : ℕ} (n : ℕ) → x < 256 ^ n → n < 8 → x < 256 ^ 7
+below-seven {x} n h l =
+    let le : n ≤ 7 = omega arith in
+    let p : 256 ^ n ≤ 256 ^ 7 = pow-le-pow-right (omega arith) le in
+    omega arith
+
+pub zero-below : (n : ℕ) → 0 < 256 ^ n
+zero-below n =
+    let le : 0 ≤ n = omega arith in
+    pow-le-pow-right (omega arith) le

@@ -4,4 +4,5 @@ pub mod Read
 pub mod Write
 pub mod Size
 pub mod Statements
+pub mod Scan
 pub mod Meaning

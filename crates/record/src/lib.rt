@@ -1,8 +1,10 @@
 // Call records: a map byte, then the fields whose bit stands, lowest byte first.
 mod kinds;
+mod read;
 mod write;
 
 use fnv::Tag;
+pub use read::read_call;
 pub use write::write_call;
 
 pub struct Handle(pub u64);

@@ -1,6 +1,6 @@
 use Rattle.record.specs.Layout.{kinds, among, kindOf, mapIn, mapOf}
 use Rattle.record.specs.Meaning.{legalMap}
-use Rattle.record.proofs.KindTable.{no-more, and-not, no-kind}
+use Rattle.record.proofs.KindTable.{no-kind}
 use Rattle.record.proofs.kinds.legal_map.Statement.{statement}
 use Rattle.record.proofs.kinds.legal_map.Tie as tie
 
@@ -62,22 +62,7 @@ returns-14 c = rw (c .match .keys1)
 
 returns-15 : tie.Need-returns-15
 unfolding legalMap mapOf mapIn kinds
-returns-15 c =
-    let r = c .match .rest in
-    rw (no-kind
-    (and-not (r .0 .0 .0 .0 .0 .0 .0 .0 .0 .0 .0 .0 .1)
-    (and-not (r .0 .0 .0 .0 .0 .0 .0 .0 .0 .0 .0 .1)
-    (and-not (r .0 .0 .0 .0 .0 .0 .0 .0 .0 .0 .1)
-    (and-not (r .0 .0 .0 .0 .0 .0 .0 .0 .0 .1)
-    (and-not (r .0 .0 .0 .0 .0 .0 .0 .0 .1)
-    (and-not (r .0 .0 .0 .0 .0 .0 .0 .1)
-    (and-not (r .0 .0 .0 .0 .0 .0 .1)
-    (and-not (r .0 .0 .0 .0 .0 .1)
-    (and-not (r .0 .0 .0 .0 .1)
-    (and-not (r .0 .0 .0 .1)
-    (and-not (r .0 .0 .1)
-    (and-not (r .0 .1)
-    (and-not (r .1) no-more))))))))))))))
+returns-15 c = rw (no-kind _ _ (c .match .rest))
 
 pub legal-map-spec : {M : Type 1} → statement M
 legal-map-spec =
