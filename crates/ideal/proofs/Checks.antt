@@ -1,0 +1,85 @@
+-- What a check says of history. Assumes nothing.
+use Prim.Native.Nat.{ℕ, suc}
+use mathlib.Core.Path.{_≡_, refl, sym, _∙_}
+use mathlib.Core.Bool.{Bool, true, false, cond}
+use mathlib.Core.List.{List}
+use native.Mathlib.Omega.{arith}
+use borrow.Author.Tests.{eqb-false, ne-eqb}
+use Rattle.fnv.specs.declared.Tag.{Tag}
+use Rattle.record.specs.Call.{Call, attest, check}
+use Rattle.record.specs.Read.{whole, read}
+use Rattle.ideal.specs.State.{State}
+use Rattle.ideal.specs.Step.{logged, tests, first, refusal, number}
+use Rattle.ideal.specs.Box.{Element, callOn, elementAt}
+use Rattle.ideal.specs.Accuracy.{LogsAt, Says, Sized, CheckAt}
+use Rattle.ideal.proofs.Bools.{by-cases, clash}
+use Rattle.ideal.proofs.Chain.{failed}
+use Rattle.ideal.proofs.Runs.{stateBefore, valid-before, caller-before, accepted-at, accepts-at, Accepted, number-at}
+use Rattle.ideal.proofs.Logs.{attest-passed, logged-since}
+
+check-refusal : (s : State) (i : ℕ) (g : Tag) (v : List ℕ) → (i ≡ 0 → ⊥) → refusal s (check i g v) ≡ 0
+unfolding refusal tests first
+check-refusal s i g v h = rw (ne-eqb i 0 h)
+
+check-named : (s : State) (i : ℕ) (g : Tag) (v : List ℕ) → refusal s (check i g v) ≡ 0 → i ≡ 0 → ⊥
+unfolding refusal tests
+check-named s i g v h = eqb-false i 0 (failed 8 _ _ h)
+
+check-number : (s : State) (i : ℕ) (g : Tag) (v : List ℕ) → number s (check i g v) ≡ cond (logged i g v (s .log)) 1 0
+unfolding number
+check-number s i g v = refl
+
+-- who logs has an identity
+logs-named : (es : List Element) (k i : ℕ) (g : Tag) (v : List ℕ) → LogsAt callOn es i v g k → i ≡ 0 → ⊥
+logs-named es k i g v l e =
+    let a = accepted-at es k (attest (l .offset) (l .size)) (l .used) (l .reads) (l .accepts) in
+    let w = attest-passed (stateBefore es k) (l .offset) (l .size) (valid-before es k) (a .passes) in
+    valid-before es k .live (w .0) (sym (caller-before es k) ∙ l .by ∙ e)
+
+pub same-cond : (n : ℕ) (a b : Bool) → cond a (suc n) 0 ≡ cond b (suc n) 0 → a ≡ b
+same-cond n true true e = refl
+same-cond n true false e = absurd (omega arith)
+same-cond n false true e = absurd (omega arith)
+same-cond n false false e = refl
+
+module _ (es : List Element) (k i : ℕ) (g : Tag) (v : List ℕ) (used : ℕ)
+    (reads : read (elementAt es k .bytes) ≡ whole (check i g v) used) where
+  abbrev s : State
+  s = stateBefore es k
+
+  abbrev c : Call
+  c = check i g v
+
+  -- what the log must say for the answer 1, where b is true, or 0
+  record Told (b : Bool) : Type 0 where
+    sized : Sized callOn es k
+    named : i ≡ 0 → ⊥
+    log : logged i g v (s .log) ≡ b
+
+  says : (b : Bool) → Told b → Says callOn es (cond b 1 0) k
+  says b t =
+      let a : Accepted s (elementAt es k) c used =
+      record { sized = t .sized; reads = reads; passes = check-refusal s i g v (t .named) } in
+      (accepts-at es k c used a, number-at es k c used a ∙ check-number s i g v ∙ rw (t .log))
+
+  said : (b : Bool) → Says callOn es (cond b 1 0) k → Told b
+  said b p =
+      let a = accepted-at es k c used reads (p .0) in
+      let n = sym (check-number s i g v) ∙ sym (number-at es k c used a) ∙ p .1 in
+      record { sized = a .sized; named = check-named s i g v (a .passes); log = same-cond 0 _ b n }
+
+  pub check-at : CheckAt callOn es k i g v
+  check-at =
+      let log = logged-since es i g v k in
+      record {
+        yes = (
+          λ p. let q = said true p in (q .sized, log .0 (q .log)),
+          λ p. let x = p .1 in
+              says true (record { sized = p .0; named = logs-named es (x .index) i g v (x .there); log = log .1 x }),
+        );
+        no = (
+          λ p. let q = said false p in (q .sized, q .named, λ x. clash _ (log .1 x) (q .log)),
+          λ p. let f = by-cases (logged i g v (s .log)) (λ t. absurd (p .2 (log .0 t))) (λ f. f) in
+              says false (record { sized = p .0; named = p .1; log = f }),
+        );
+      }

@@ -1,0 +1,221 @@
+-- Demand 3's premises are met by two lists that differ.
+use Prim.Native.Nat.{ℕ, zero, suc, _+_, _≤_, _<_}
+use mathlib.Core.Path.{_≡_, refl, sym, ap, _∙_, subst, subst₂}
+use mathlib.Core.Bool.{Bool, true, false}
+use mathlib.Core.List.{List, [], _∷_, map}
+use native.Mathlib.Omega.{arith}
+use lib.ListN.{length, getD, take}
+use Rattle.record.specs.Call.{Call, create, start, yield, exit, heapWrite, heapRead, sharedWrite, sharedRead, attest, check, protect, retrieve, report}
+use Rattle.record.specs.Layout.{stands, kinds, among, kindOf}
+use Rattle.record.specs.Read.{whole, read, fromLittle, field, contents, bytesField, fields, readFields, readKind, afterMap}
+use Rattle.record.specs.Write.{write, only, recordOf, filled, recordIn}
+use Rattle.fnv.specs.Fnv.{little}
+use Rattle.ideal.specs.State.{State, fresh, cleared, heapAt, caller, ownPart, any, find, bytesUsed}
+use Rattle.ideal.specs.Step.{accepted, settle, step as carry, onReading, stepOn, effect, refusal, first, tests, idle, vacant, beyond, full, isEscrowed, found, absent, valueIn, hasHandle, handleOf, next, freeFrom, freeHandle, paired, withHeap, withRunning, withIdentity, withLog, withEscrow, written, protected}
+use Rattle.ideal.specs.Tables.{boxRecord, tables, freshTables}
+use Rattle.ideal.specs.Box.{laid, callOn, elementAt, tablesFrom, tablesAfter, tablesBefore, answerAt}
+use Rattle.ideal.specs.Refusals.{ownBytes}
+use Rattle.ideal.specs.Secrecy.{inside, groupRuns, AlikeAt, same, other-bytes, PremiseAt}
+use Rattle.ideal.specs.Witness.{group, calls, element, elements, PremisesCanBeMet}
+use Rattle.ideal.specs.Valid.{Valid}
+use Rattle.ideal.proofs.Laid.{stepElement, valid-fresh, valid-effect, fresh-tables, call-is}
+use Rattle.ideal.proofs.Hosted.{byte-is}
+use Rattle.ideal.proofs.OwnHeap.{own-bytes as own-heap}
+use Rattle.ideal.proofs.TwoStates.{SameBut, same-state, AlikeCalls, same-call, other-call, same-effect}
+use Rattle.ideal.proofs.TwoRuns.{Pairing, ended, both, by-index}
+use Rattle.ideal.proofs.Secret.{held, Disclosed, none-told, runs-below, protect-fits}
+
+-- ---- a list of calls, each read back from its record and accepted
+
+data Accepted : State → List Call → Type 0 where
+  none : {s : State} → Accepted s []
+  call : {s : State} {c : Call} {cs : List Call} → read (write c) ≡ whole c (length (write c)) → refusal s c ≡ 0
+      → Accepted (effect s c) cs → Accepted s (c ∷ cs)
+
+unfoldable after : State → List Call → State
+after s [] = s
+after s (c ∷ cs) = after (effect s c) cs
+
+module _ {s : State} {c : Call} (v : Valid s) (r : read (write c) ≡ whole c (length (write c))) (p : refusal s c ≡ 0) where
+  accepted-is : callOn (tables s) (element c) ≡ laid (accepted s c (length (write c)))
+  unfolding element stepElement stepOn onReading carry settle
+  accepted-is = call-is s (element c) v ∙ rw (r, p)
+
+  next-tables : callOn (tables s) (element c) .tables ≡ tables (effect s c)
+  unfolding laid accepted
+  next-tables = ap (λ x. x .tables) accepted-is
+
+  code-zero : callOn (tables s) (element c) .answer .code ≡ 0
+  unfolding laid accepted
+  code-zero = ap (λ x. x .answer .code) accepted-is
+
+all-valid : {s : State} {cs : List Call} → Valid s → Accepted s cs → Valid (after s cs)
+unfolding after
+all-valid v none = v
+all-valid v (call r p a) = all-valid (valid-effect _ _ v p) a
+
+tables-end : {s : State} {cs : List Call} → Valid s → Accepted s cs
+    → tablesFrom callOn (tables s) (map element cs) ≡ tables (after s cs)
+unfolding tablesFrom after
+tables-end v none = refl
+tables-end v (call {cs = cs} r p a) =
+    ap (λ x. tablesFrom callOn x (map element cs)) (next-tables v r p) ∙ tables-end (valid-effect _ _ v p) a
+
+codes : {s : State} {cs : List Call} → Valid s → Accepted s cs → (k : ℕ) → k < length (map element cs)
+    → callOn (tablesFrom callOn (tables s) (take k (map element cs))) (elementAt (map element cs) k) .answer .code ≡ 0
+unfolding tablesFrom elementAt
+codes v none k l = absurd (omega arith)
+codes v (call r p a) zero l = code-zero v r p
+codes v (call {cs = cs} r p a) (suc k) l =
+    ap (λ x. callOn (tablesFrom callOn x (take k (map element cs))) (elementAt (map element cs) k) .answer .code)
+    (next-tables v r p)
+    ∙ codes (valid-effect _ _ v p) a k (omega arith)
+
+-- ---- two lists in step
+
+abbrev Unless : Bool → Type 0 → Type 0
+Unless true X = Unit {0}
+Unless false X = X
+
+-- what the premise asks of an accepted call
+abbrev Known : State → State → Call → Type 0
+Known s t (create p i) = Unit {0}
+Known s t (start p) = Unit {0}
+Known s t yield = Unit {0}
+Known s t exit = Unit {0}
+Known s t (heapWrite p o v) = Unit {0}
+Known s t (heapRead p o n) = Unit {0}
+Known s t (sharedWrite o v) = Unit {0}
+Known s t (sharedRead o n) = Unit {0}
+Known s t (attest o n) = ownPart s o n ≡ ownPart t o n
+Known s t (check i g v) = Unit {0}
+Known s t (protect i o n d) = Unless (inside group i) (ownPart s o n ≡ ownPart t o n)
+Known s t (retrieve i o h) = Unit {0}
+Known s t report = Unit {0}
+
+data Steps : State → State → List Call → List Call → Type 0 where
+  end : {s t : State} → Steps s t [] []
+  step : {s t : State} {c d : Call} {cs ds : List Call} → AlikeCalls (held group) s c d → Known s t c
+      → Steps (effect s c) (effect t d) cs ds → Steps s t (c ∷ cs) (d ∷ ds)
+
+alike : {s t : State} {c : Call} {cs ds : List Call} → Known s t c → Steps (effect s c) (effect t c) cs ds
+    → Steps s t (c ∷ cs) (c ∷ ds)
+alike {c = c} k rest = step (same-call c) k rest
+
+disclosed : {s t : State} {c : Call} → Known s t c → Disclosed group s t c
+disclosed {s} {t} k =
+    record {
+      attests = λ g o n q h. subst (Known s t) q k;
+      protects = λ g i o n d q out r. subst (λ b. Unless b (ownPart s o n ≡ ownPart t o n)) out (subst (Known s t) q k);
+    }
+
+whole-call : {c d : Call} {m n : ℕ} → whole c m ≡ whole d n → c ≡ d
+whole-call e = cc
+
+same-used : (p o : ℕ) (v w : List ℕ) → length v ≡ length w
+    → length (write (heapWrite p o v)) ≡ length (write (heapWrite p o w))
+unfolding stands kinds among kindOf only recordOf filled recordIn write little
+same-used p o v w n = omega arith
+
+module _ {s t : State} {c : Call} (k : SameBut (held group) s t) (v : Valid s) (w : Valid t)
+    (r : read (write c) ≡ whole c (length (write c))) where
+  own-bytes : (o n : ℕ) → inside group (caller s) ≡ true → o + n ≤ 256 → ownPart s o n ≡ ownPart t o n
+      → ownBytes (tables s) o n ≡ ownBytes (tables t) o n
+  own-bytes o n g h q =
+      let b = runs-below group s v g in
+      let e = k .running in
+      own-heap s v b o n h ∙ q ∙ sym (own-heap t w (omega arith) o n h)
+
+  premise-at : refusal s c ≡ 0 → Disclosed group s t c → PremiseAt callOn group (tables s) (tables t) (element c)
+  unfolding groupRuns tables boxRecord element
+  premise-at p m =
+      record {
+        attests = λ g o n u q h. own-bytes o n g h (m .attests g o n (whole-call (sym r ∙ q)) h);
+        protects = λ g i o n d u q out _.
+            let e = whole-call (sym r ∙ q) in
+            own-bytes o n g (protect-fits s i o n d (rw e at p)) (m .protects g i o n d e out p);
+      }
+
+alike-at : {s : State} {c d : Call} → AlikeCalls (held group) s c d → read (write c) ≡ whole c (length (write c))
+    → read (write d) ≡ whole d (length (write d)) → AlikeAt group (tables s) (element c) (element d)
+unfolding groupRuns tables boxRecord element
+alike-at (same-call c) r r′ = same refl
+alike-at (other-call p o v w g n) r r′ =
+    other-bytes g
+    (record {
+      place = p;
+      offset = o;
+      used = length (write (heapWrite p o v));
+      bytes₁ = v;
+      bytes₂ = w;
+      count = n;
+      reads₁ = r;
+      reads₂ = r′ ∙ ap (whole (heapWrite p o w)) (sym (same-used p o v w n));
+      outputSize = refl;
+    })
+
+pairing : {s t : State} {cs ds : List Call} → SameBut (held group) s t → Valid s → Valid t → Accepted s cs → Accepted t ds
+    → Steps s t cs ds → Pairing callOn group (tables s) (tables t) (map element cs) (map element ds)
+pairing k v w none none end = ended
+pairing k v w (call r p a) (call r′ p′ b) (step {cs = cs} {ds = ds} l m rest) =
+    let next = same-effect (held group) k l (none-told group (disclosed m)) p in
+    both (alike-at l r r′) (premise-at k v w r p (disclosed m))
+    (subst₂ (λ x y. Pairing callOn group x y (map element cs) (map element ds)) (sym (next-tables v r p))
+    (sym (next-tables w r′ p′)) (pairing next (valid-effect _ _ v p) (valid-effect _ _ w p′) a b rest))
+
+-- ---- the witness
+
+record Computed (a b : ℕ) : Type 0 where
+  accepts : Accepted fresh (calls a)
+  steps : Steps fresh fresh (calls a) (calls b)
+  heap : getD (heapAt (after fresh (calls a)) 1) 0 0 ≡ a
+
+-- on the states, with the bytes left open
+computed : (a b : ℕ) → Computed a b
+unfolding after calls group fresh cleared ownPart any find bytesUsed full isEscrowed found absent valueIn hasHandle handleOf next freeFrom freeHandle paired first idle vacant beyond tests refusal withHeap withRunning withIdentity withLog withEscrow written protected effect inside stands kinds among kindOf fromLittle field contents bytesField fields readFields readKind afterMap read only recordOf filled recordIn write little
+computed a b =
+    record {
+      accepts =
+          call refl refl (call refl refl (call refl refl (call refl refl (call refl refl (call refl refl (call refl refl
+          (call refl refl (call refl refl (call refl refl (call refl refl (call refl refl (call refl refl (call refl refl
+          (call refl refl (call refl refl (call refl refl (call refl refl none)))))))))))))))));
+      steps =
+          alike tt (alike tt (alike tt (alike tt (alike tt (alike refl (alike refl
+          (step (other-call 0 1 (a ∷ []) (b ∷ []) refl refl) tt
+          (alike tt (alike tt (alike tt (alike tt (alike tt (alike tt (alike tt (alike tt (alike tt (alike tt end)))))))))))))))));
+      heap = refl;
+    }
+
+secret : (b : ℕ) → getD (tablesAfter callOn (elements b) .heaps) 256 0 ≡ b
+unfolding elements tablesAfter
+secret b =
+    let a = computed b b .accepts in
+    ap (λ t. getD (t .heaps) 256 0) (ap (λ t. tablesFrom callOn t (elements b)) fresh-tables ∙ tables-end valid-fresh a)
+    ∙ byte-is (after fresh (calls b)) (all-valid valid-fresh a) 1 0 (omega arith) (omega arith)
+    ∙ computed b b .heap
+
+all-accepted : (b k : ℕ) → k < length (elements b) → answerAt callOn (elements b) k .code ≡ 0
+unfolding elements tablesBefore tablesAfter answerAt
+all-accepted b k l =
+    ap (λ t. callOn (tablesFrom callOn t (take k (elements b))) (elementAt (elements b) k) .answer .code) fresh-tables
+    ∙ codes valid-fresh (computed b b .accepts) k l
+
+paired-elements : (a b : ℕ) → Pairing callOn group freshTables freshTables (elements a) (elements b)
+unfolding elements
+paired-elements a b =
+    rw fresh-tables
+    (pairing (same-state (held group) fresh) valid-fresh valid-fresh (computed a b .accepts) (computed b a .accepts)
+    (computed a b .steps))
+
+pub premises-can-be-met : PremisesCanBeMet callOn
+unfolding tablesBefore tablesAfter
+premises-can-be-met =
+    let i = by-index callOn group (paired-elements 66 67) in
+    record {
+      alike = record { long = i .long; alike = i .alike };
+      premise = i .premise;
+      accepted₁ = all-accepted 66;
+      accepted₂ = all-accepted 67;
+      secret₁ = secret 66;
+      secret₂ = secret 67;
+    }

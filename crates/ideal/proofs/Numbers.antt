@@ -1,0 +1,101 @@
+-- Demand 1: each number exactly when its condition holds and no earlier one does; a refusal alters nothing.
+use Prim.Native.Nat.{ℕ, zero, suc}
+use mathlib.Core.Path.{_≡_, refl, ap, _∙_}
+use mathlib.Core.Bool.{Bool, true, false, not, _&&_}
+use mathlib.Core.List.{List, [], _∷_, _++_}
+use borrow.Author.Tests.{not-true}
+use Rattle.record.specs.Call.{Call}
+use Rattle.record.specs.Read.{Reading, refused, whole, read}
+use Rattle.ideal.specs.State.{State, any, every}
+use Rattle.ideal.specs.Step.{refusal, refusedAnswer, refuse, accepted, settle, step, onReading, stepOn}
+use Rattle.ideal.specs.Tables.{Tables, tables, stateOf}
+use Rattle.ideal.specs.Soundness.{sizesRight, sound}
+use Rattle.ideal.specs.Box.{Element, laid, unsound, callOn, outputAfter}
+use Rattle.ideal.specs.Layouts.{Sound}
+use Rattle.ideal.specs.Refusals.{oneOf, readerConditions, callConditions, onCall, conditions, unread, was-read, Refused, EachNumber, RefusalsAlterNothing}
+use Rattle.ideal.proofs.Bools.{by-cases, and-left, and-right}
+use Rattle.ideal.proofs.Laid.{valid-sound, state-tables, tables-state}
+use Rattle.ideal.proofs.Conditions.{firstOf, first-of, first-among}
+use Rattle.ideal.proofs.ReaderNumbers.{seen, read-seen}
+use Rattle.ideal.proofs.CallNumbers.{call-first}
+
+-- at these no bytes count as used
+abbrev readNumbers : List ℕ
+readNumbers = 1 ∷ 2 ∷ 3 ∷ 15 ∷ []
+
+-- the answer's code is the refusal
+settle-code : (n : ℕ) (s : State) (c : Call) (used : ℕ) → settle n s c used .answer .code ≡ n
+unfolding settle accepted refuse refusedAnswer
+settle-code zero s c used = refl
+settle-code (suc n) s c used = refl
+
+sound-of : (t : Tables) (n : ℕ) → sizesRight t n && sound t ≡ true → Sound t n
+sound-of t n h = record { sizes = and-left (sizesRight t n) _ h; box = and-right (sizesRight t n) _ h }
+
+module _ (t : Tables) (n : ℕ) (h : Sound t n) where
+  -- a call's refusal on a sound box is the first of the conditions on its tables
+  refusal-first : (c : Call) → refusal (stateOf t) c ≡ firstOf (callConditions t c)
+  refusal-first c =
+      let v = valid-sound t n h in
+      call-first (stateOf t) (state-tables (stateOf t) v) v c ∙ ap (λ x. firstOf (callConditions x c)) (tables-state t n h)
+
+  -- no call is refused with a number of the reader's, or with 15
+  call-number : (c : Call) → oneOf readNumbers (refusal (stateOf t) c) ≡ false
+  unfolding every callConditions firstOf oneOf any
+  call-number c =
+      let k = first-among (λ m. not (oneOf readNumbers m)) (callConditions t c) [] refl refl in
+      ap (oneOf readNumbers) (refusal-first c) ∙ not-true _ k
+
+  reading-code : (r : Reading) → onReading (stateOf t) r .answer .code ≡ seen r (firstOf (onCall t r)) .0
+  unfolding onReading refuse refusedAnswer step seen onCall
+  reading-code (refused code number) = refl
+  reading-code (whole c used) = settle-code (refusal (stateOf t) c) (stateOf t) c used ∙ refusal-first c
+
+  step-code : (bs : List ℕ) → stepOn (stateOf t) bs .answer .code ≡ firstOf (readerConditions bs ++ onCall t (read bs))
+  unfolding stepOn
+  step-code bs = reading-code (read bs) ∙ ap (λ x. x .0) (read-seen bs (onCall t (read bs)))
+
+call-code : (t : Tables) (e : Element) → callOn t e .answer .code ≡ firstOf (conditions t e)
+unfolding callOn laid unsound refusedAnswer conditions firstOf
+call-code t e =
+    by-cases (sizesRight t (e .outputSize) && sound t)
+    (λ h. rw h (step-code t (e .outputSize) (sound-of t _ h) (e .bytes)))
+    (λ h. rw h)
+
+pub each-number : EachNumber callOn
+each-number t e n = rw (call-code t e) (first-of n (conditions t e))
+
+-- ---- what a refusal leaves
+
+-- the reader refuses with 1, 2 or 3, and its answer number is 0
+read-refused : (bs : List ℕ) (code number : ℕ) → read bs ≡ refused code number
+    → (number ≡ 0) × (oneOf readNumbers code ≡ true)
+unfolding seen every readerConditions firstOf oneOf any
+read-refused bs code number e =
+    let some : List (ℕ × Bool) = (1, true) ∷ [] in
+    let h = rw e at (read-seen bs some) in
+    (ap (λ x. x .1) h, ap (λ x. oneOf readNumbers (x .0)) h ∙ first-among (oneOf readNumbers) (readerConditions bs) some refl refl)
+
+module _ (t : Tables) (e : Element) (h : Sound t (e .outputSize)) where
+  settle-refused : (c : Call) (used n : ℕ) → read (e .bytes) ≡ whole c used → oneOf readNumbers n ≡ false
+      → (settle n (stateOf t) c used .answer .code ≡ 0 → ⊥) → Refused t e (laid (settle n (stateOf t) c used))
+  unfolding settle accepted laid refuse refusedAnswer outputAfter
+  settle-refused c used zero r k f = absurd (f refl)
+  settle-refused c used (suc n) r k f =
+      record { tables = tables-state t _ h; number = refl; shown = refl; used = was-read k c r; output = λ out. refl }
+
+  reading-refused : (r : Reading) → read (e .bytes) ≡ r → (onReading (stateOf t) r .answer .code ≡ 0 → ⊥)
+      → Refused t e (laid (onReading (stateOf t) r))
+  unfolding onReading laid refuse refusedAnswer step outputAfter
+  reading-refused (refused code number) r f =
+      let k = read-refused (e .bytes) code number r in
+      record { tables = tables-state t _ h; number = k .0; shown = refl; used = unread (k .1) refl; output = λ out. refl }
+  reading-refused (whole c used) r f = settle-refused c used (refusal (stateOf t) c) r (call-number t _ h c) f
+
+pub refusals-alter-nothing : RefusalsAlterNothing callOn
+unfolding callOn laid unsound refusedAnswer outputAfter oneOf any stepOn
+refusals-alter-nothing t e =
+    by-cases (sizesRight t (e .outputSize) && sound t)
+    (λ h. rw h (reading-refused t e (sound-of t _ h) (read (e .bytes)) refl))
+    (λ h. rw h
+    (λ f. record { tables = refl; number = refl; shown = refl; used = unread refl refl; output = λ out. refl }))

@@ -1,0 +1,65 @@
+-- The running place's heap, in the state and in the lent bytes. Assumes nothing.
+use Prim.Native.Nat.{ℕ, zero, suc, _+_, _*_, _≤_, _<_}
+use mathlib.Core.Path.{_≡_, refl, ap}
+use mathlib.Core.List.{List, [], _∷_, _++_}
+use native.Mathlib.Omega.{arith}
+use native.Mathlib.Nat.{zero-add, suc-add, add-suc}
+use lib.ListN.{length, getD, set, length-set}
+use lib.Seq.{sets, set-append-left, getD-set-same}
+use Rattle.ideal.specs.State.{State, heapAt, ownPart}
+use Rattle.ideal.specs.Step.{withHeap, written}
+use Rattle.ideal.specs.Tables.{tables, boxRecord, flat}
+use Rattle.ideal.specs.Refusals.{ownBytes}
+use Rattle.ideal.specs.Accuracy.{withOwnBytes}
+use Rattle.ideal.specs.Valid.{Valid}
+use Rattle.ideal.proofs.Heaps.{Sized}
+use Rattle.ideal.proofs.Memory.{part-sets, flat-part}
+
+-- ---- stores in an appended list
+
+module _ {A : Type 0} where
+  set-append-right : (l m : List A) (i : ℕ) (a : A) → set (l ++ m) (length l + i) a ≡ l ++ set m i a
+  set-append-right [] m i a = rw zero-add
+  set-append-right (x ∷ l) m i a = rw suc-add (ap (λ r. x ∷ r) (set-append-right l m i a))
+
+  sets-append-left : (l m : List A) (i : ℕ) (v : List A) → i + length v ≤ length l → sets (l ++ m) i v ≡ sets l i v ++ m
+  sets-append-left l m i [] h = refl
+  sets-append-left l m i (a ∷ v) h =
+      rw (set-append-left l m i a (omega arith)) (sets-append-left (set l i a) m (suc i) v (rw length-set (omega arith)))
+
+  sets-append-right : (l m : List A) (i : ℕ) (v : List A) → sets (l ++ m) (length l + i) v ≡ l ++ sets m i v
+  sets-append-right l m i [] = refl
+  sets-append-right l m i (a ∷ v) =
+      rw (set-append-right l m i a, ← add-suc) (sets-append-right l (set m i a) (suc i) v)
+
+-- ---- a heap among the heaps
+
+flat-sets : (hs : List (List ℕ)) (p o : ℕ) (v : List ℕ) → Sized hs → p < length hs → o + length v ≤ 256
+    → flat (set hs p (sets (getD hs p []) o v)) ≡ sets (flat hs) (256 * p + o) v
+unfolding flat
+flat-sets [] p o v z h f = absurd (omega arith)
+flat-sets (m ∷ hs) zero o v z h f =
+    let k = z 0 (omega arith) in
+    rw (zero-add, sets-append-left m (flat hs) o v (omega arith))
+flat-sets (m ∷ hs) (suc p) o v z h f =
+    let k = z 0 (omega arith) in
+    let q : 256 * suc p + o ≡ length m + (256 * p + o) = omega arith in
+    rw (q, sets-append-right m (flat hs) (256 * p + o) v, ← flat-sets hs p o v (λ i b. z (suc i) (omega arith)) (omega arith) f)
+
+module _ (s : State) (valid : Valid s) (runs : s .running < 16) where
+  sizes : Sized (s .heaps)
+  sizes p h = valid .sizes p (omega (arith, valid .heaps))
+
+  pub own-bytes : (o n : ℕ) → o + n ≤ 256 → ownBytes (tables s) o n ≡ ownPart s o n
+  unfolding tables boxRecord ownPart
+  own-bytes o n f = flat-part (s .heaps) (s .running) o n sizes (omega (arith, valid .heaps)) f
+
+  pub own-written : (o : ℕ) (v : List ℕ) → o + length v ≤ 256 → tables (written s o v) ≡ withOwnBytes (tables s) o v
+  unfolding tables boxRecord written withHeap withOwnBytes
+  own-written o v f = rw (flat-sets (s .heaps) (s .running) o v sizes (omega (arith, valid .heaps)) f)
+
+  pub written-stands : (o : ℕ) (v : List ℕ) → o + length v ≤ 256 → ownPart (written s o v) o (length v) ≡ v
+  unfolding written withHeap ownPart
+  written-stands o v f =
+      rw (getD-set-same (s .heaps) (s .running) (sets (heapAt s (s .running)) o v) [] (omega (arith, valid .heaps)))
+      (part-sets (heapAt s (s .running)) o v (omega (arith, valid .sizes (s .running) runs)))

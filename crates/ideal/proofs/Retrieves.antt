@@ -1,0 +1,218 @@
+-- What a retrieve says of history. Assumes nothing.
+use Prim.Native.Nat.{ℕ, suc, _+_, _≤_, _<_}
+use mathlib.Core.Path.{_≡_, refl, sym, ap, _∙_}
+use mathlib.Core.Logic.{_↔_}
+use mathlib.Core.Bool.{true, false, cond}
+use mathlib.Core.List.{List}
+use mathlib.Core.Option.{Option, none, some}
+use native.Mathlib.Omega.{arith}
+use lib.ListN.{length, List·getD-eq-default}
+use lib.Dec.{ltb}
+use borrow.Author.Tests.{eqb-true, eqb-false, eq-eqb, ne-eqb, ltb-true, ltb-false, lt-ltb, le-ltb}
+use Rattle.record.specs.declared.Handle.{Handle}
+use Rattle.record.specs.Call.{Call, protect, retrieve}
+use Rattle.record.specs.Read.{whole, read}
+use Rattle.ideal.specs.State.{Escrowed, State, caller, ownPart}
+use Rattle.ideal.specs.Step.{found, absent, valueIn, idle, beyond, tests, first, refusal, effect, number, written, withHeap}
+use Rattle.ideal.specs.Tables.{tables}
+use Rattle.ideal.specs.Box.{Element, callOn, elementAt, tablesBefore, answerAt}
+use Rattle.ideal.specs.Refusals.{ownBytes}
+use Rattle.ideal.specs.Accuracy.{ProtectsAt, Sized, Runs, ProtectedBefore, HandsOut, RetrieveAt, withOwnBytes}
+use Rattle.ideal.proofs.Bools.{by-cases}
+use Rattle.ideal.specs.Valid.{Valid}
+use Rattle.ideal.proofs.Kept.{busy}
+use Rattle.ideal.proofs.OwnHeap.{own-written, written-stands}
+use Rattle.ideal.proofs.Runs.{stateBefore, valid-before, tables-before, running-before, caller-before, own-before, sized-at, code-at, accepted-at, accepts-at, Accepted, number-at, state-after}
+use Rattle.ideal.proofs.Escrows.{protect-passed, Finds, found-since}
+use Rattle.ideal.proofs.Checks.{same-cond}
+
+-- who protects has an identity, and so has whom it is for
+record Named (i r : ℕ) : Type 0 where
+  source : i ≡ 0 → ⊥
+  recipient : r ≡ 0 → ⊥
+
+protects-named : (es : List Element) (k i r : ℕ) (h : Handle) (v : List ℕ) → ProtectsAt callOn es i r h v k → Named i r
+protects-named es k i r h v l =
+    let a = accepted-at es k (protect r (l .offset) (l .size) (l .draw)) (l .used) (l .reads) (l .accepts) in
+    let w = protect-passed (stateBefore es k) r (l .offset) (l .size) (l .draw) (valid-before es k) (a .passes) in
+    record { source = λ e. valid-before es k .live (w .runs) (sym (caller-before es k) ∙ l .by ∙ e); recipient = w .named }
+
+idle-caller : (s : State) → Valid s → idle s ≡ true → caller s ≡ 0
+unfolding idle
+idle-caller s valid e =
+    let n = eqb-true (s .running) 16 e in
+    List·getD-eq-default (s .identities) 0 (omega (arith, valid .places))
+
+module _ (s : State) (i o : ℕ) (h : Handle) where
+  -- a program runs, and the source is named
+  record Ready : Type 0 where
+    runs : idle s ≡ false
+    named : i ≡ 0 → ⊥
+
+  was-ready : (n : ℕ) → refusal s (retrieve i o h) ≡ n → (n ≡ 4 → ⊥) → (n ≡ 9 → ⊥) → Ready
+  unfolding refusal tests first
+  was-ready n e four nine =
+      let r : idle s ≡ false = by-cases (idle s) (λ t. absurd (four (sym e ∙ rw t))) (λ f. f) in
+      record { runs = r; named = λ z. nine (sym e ∙ rw (r, eq-eqb i 0 z)) }
+
+  -- it then finds nothing, or what does or does not fit
+  data Sought : Type 0 where
+    nothing : found s i h ≡ none → Sought
+    something : (v : List ℕ) → Finds s i h v → Sought
+
+  sought : Sought
+  sought = at (found s i h) refl
+    where
+      at : (f : Option Escrowed) → found s i h ≡ f → Sought
+      at none e = nothing e
+      at (some x) e = something (x .value) (record { entry = x; is = e; value = refl })
+
+  absent-refusal : Ready → found s i h ≡ none → refusal s (retrieve i o h) ≡ 10
+  unfolding refusal tests first absent
+  absent-refusal r e = rw (r .runs, ne-eqb i 0 (r .named), e)
+
+  module _ (v : List ℕ) (f : Finds s i h v) where
+    found-refusal : Ready → refusal s (retrieve i o h) ≡ cond (ltb 256 (o + length v)) 11 0
+    unfolding refusal tests first absent valueIn beyond
+    found-refusal r = rw (r .runs, ne-eqb i 0 (r .named), f .is, f .value)
+
+    retrieve-effect : effect s (retrieve i o h) ≡ written s o v
+    unfolding effect valueIn
+    retrieve-effect = rw (f .is, f .value)
+
+    retrieve-number : number s (retrieve i o h) ≡ length v
+    unfolding number valueIn
+    retrieve-number = rw (f .is, f .value)
+
+module _ (es : List Element) (k i o : ℕ) (h : Handle) (used : ℕ)
+    (reads : read (elementAt es k .bytes) ≡ whole (retrieve i o h) used) where
+  abbrev s : State
+  s = stateBefore es k
+
+  abbrev c : Call
+  c = retrieve i o h
+
+  ready : (v : List ℕ) → ProtectedBefore callOn es k i h v → Ready s i o h
+  ready v x =
+      let n = protects-named es (x .index) i _ h v (x .there) in
+      record {
+        runs = by-cases (idle s)
+            (λ t. absurd (n .recipient (caller-before es k ∙ idle-caller s (valid-before es k) t))) (λ f. f);
+        named = n .source;
+      }
+
+  hands : (v : List ℕ) → Accepted s (elementAt es k) c used → Ready s i o h → Finds s i h v → o + length v ≤ 256
+      → HandsOut callOn es o v k
+  unfolding written withHeap
+  hands v a r f fits =
+      let w = busy s (valid-before es k) (r .runs) in
+      let q : stateBefore es (suc k) ≡ written s o v = state-after es k c used a ∙ retrieve-effect s i o h v f in
+      let w′ : stateBefore es (suc k) .running < 16 = rw q w in
+      record {
+        accepts = (accepts-at es k c used a, number-at es k c used a ∙ retrieve-number s i o h v f);
+        stands =
+            own-before es (suc k) o (length v) w′ fits ∙ ap (λ x. ownPart x o (length v)) q
+            ∙ written-stands s (valid-before es k) w o v fits;
+        alters =
+            tables-before es (suc k) ∙ ap tables q ∙ own-written s (valid-before es k) w o v fits
+            ∙ ap (λ x. withOwnBytes x o v) (sym (tables-before es k));
+      }
+
+  accept : (v : List ℕ) → Sized callOn es k → Ready s i o h → Finds s i h v → o + length v ≤ 256
+      → Accepted s (elementAt es k) c used
+  accept v z r f fits =
+      record { sized = z; reads = reads; passes = found-refusal s i o h v f r ∙ rw (le-ltb 256 (o + length v) fits) }
+
+  -- what an accepted retrieve found
+  record Got : Type 0 where
+    value : List ℕ
+    finds : Finds s i h value
+    fits : o + length value ≤ 256
+
+  got : Ready s i o h → refusal s c ≡ 0 → Got
+  got r p =
+      elim (sought s i o h) [
+        | nothing e ↦ let q = sym (absent-refusal s i o h r e) ∙ p in absurd (omega arith)
+        | something v f ↦ let q = sym (found-refusal s i o h v f r) ∙ p in
+            record { value = v; finds = f; fits = ltb-false 256 _ (same-cond 10 _ false q) }
+      ]
+
+  there : (v : List ℕ) → HandsOut callOn es o v k
+      → Sized callOn es k × ProtectedBefore callOn es k i h v × (o + length v ≤ 256)
+  there v x =
+      let a = accepted-at es k c used reads (x .accepts .0) in
+      let r = was-ready s i o h 0 (a .passes) (λ e. omega arith) (λ e. omega arith) in
+      let g = got r (a .passes) in
+      let u = hands (g .value) a r (g .finds) (g .fits) in
+      let n : length (g .value) ≡ length v = sym (u .accepts .1) ∙ x .accepts .1 in
+      let q : g .value ≡ v = sym (u .stands) ∙ ap (ownBytes (tablesBefore callOn es (suc k)) o) n ∙ x .stands in
+      (a .sized, rw q at (found-since es k i h (g .value) .0 (g .finds)), rw n at (g .fits))
+
+  back : (v : List ℕ) → Sized callOn es k × ProtectedBefore callOn es k i h v × (o + length v ≤ 256)
+      → HandsOut callOn es o v k
+  back v x =
+      let f = found-since es k i h v .1 (x .1) in
+      let r = ready v (x .1) in
+      hands v (accept v (x .0) r f (x .2)) r f (x .2)
+
+  one-value : (v w : List ℕ) → ProtectedBefore callOn es k i h v → ProtectedBefore callOn es k i h w → v ≡ w
+  one-value v w x y =
+      let f = found-since es k i h v .1 x in
+      let g = found-since es k i h w .1 y in
+      let q : some (f .entry) ≡ some (g .entry) = sym (f .is) ∙ g .is in
+      let e : f .entry ≡ g .entry = cc in
+      sym (f .value) ∙ ap (λ r. r .value) e ∙ g .value
+
+  -- what 10 says
+  record NotThere : Type 0 where
+    ready : Ready s i o h
+    nothing : found s i h ≡ none
+
+  ten : refusal s c ≡ 10 → NotThere
+  ten p =
+      let r = was-ready s i o h 10 p (λ e. omega arith) (λ e. omega arith) in
+      elim (sought s i o h) [
+        | nothing e ↦ record { ready = r; nothing = e }
+        | something v f ↦ let q = sym (found-refusal s i o h v f r) ∙ p in
+            absurd (by-cases (ltb 256 (o + length v)) (λ t. let n = rw t at q in omega arith)
+            (λ t. let n = rw t at q in omega arith))
+      ]
+
+  nowhere : ((v : List ℕ) → ProtectedBefore callOn es k i h v → ⊥) → found s i h ≡ none
+  nowhere n =
+      elim (sought s i o h) [
+        | nothing e ↦ e
+        | something v f ↦ absurd (n v (found-since es k i h v .0 f))
+      ]
+
+  not-there : (answerAt callOn es k .code ≡ 10)
+      ↔ (Sized callOn es k × Runs callOn es k × (i ≡ 0 → ⊥) × ((v : List ℕ) → ProtectedBefore callOn es k i h v → ⊥))
+  unfolding idle
+  not-there = (
+    λ p. let z = sized-at es k (λ e. let n = sym p ∙ e in omega arith) in
+        let t = ten (sym (code-at es k c used reads z) ∙ p) in (
+          z,
+          λ e. eqb-false (s .running) 16 (t .ready .runs) (sym (running-before es k) ∙ e),
+          t .ready .named,
+          λ v x. let f = found-since es k i h v .1 x in
+              let q : some (f .entry) ≡ none = sym (f .is) ∙ t .nothing in
+              let y : _≡_ {A = ℕ} 0 1 = cc in omega arith,
+        ),
+    λ p. code-at es k c used reads (p .0)
+        ∙ absent-refusal s i o h
+        (record { runs = ne-eqb (s .running) 16 (λ e. p .1 (running-before es k ∙ e)); named = p .2 })
+        (nowhere (p .3)),
+  )
+
+  too-far : (v : List ℕ) → ProtectedBefore callOn es k i h v
+      → (answerAt callOn es k .code ≡ 11) ↔ (Sized callOn es k × (256 < o + length v))
+  too-far v x =
+      let q = found-refusal s i o h v (found-since es k i h v .1 x) (ready v x) in (
+        λ p. let z = sized-at es k (λ e. let n = sym p ∙ e in omega arith) in
+            (z, ltb-true 256 _ (same-cond 10 _ true (sym q ∙ sym (code-at es k c used reads z) ∙ p))),
+        λ p. code-at es k c used reads (p .0) ∙ q ∙ rw (lt-ltb 256 (o + length v) (p .1)),
+      )
+
+  pub retrieve-at : RetrieveAt callOn es k i o h
+  retrieve-at =
+      record { hands-out = λ v. (there v, back v); one-value = one-value; not-there = not-there; too-far = too-far }

@@ -1,0 +1,134 @@
+-- Demand 2: what a check and a retrieve say about the calls since a fresh box, on the host's tables.
+use Prim.Native.Nat.{ℕ, zero, suc, _+_, _*_, _%_, _^_, _≤_, _<_}
+use mathlib.Core.Path.{_≡_}
+use mathlib.Core.Logic.{_↔_}
+use mathlib.Core.Bool.{Bool, true, false}
+use mathlib.Core.List.{List}
+use lib.ListN.{length}
+use lib.Seq.{sets}
+use lib.Dec.{eqb}
+use Rattle.fnv.specs.declared.Tag.{Tag}
+use Rattle.record.specs.declared.Handle.{Handle}
+use Rattle.record.specs.declared.Draw.{Draw}
+use Rattle.record.specs.Call.{Call, attest, check, protect, retrieve}
+use Rattle.record.specs.Read.{whole, read}
+use Rattle.ideal.specs.State.{any}
+use Rattle.ideal.specs.Tables.{Tables, usedEscrow}
+use Rattle.ideal.specs.Box.{Element, Result, elementAt, tablesBefore, answerAt}
+use Rattle.ideal.specs.Refusals.{callerIn, ownBytes}
+
+-- something holds at an index before k
+pub record Earlier (P : ℕ → Type 0) (k : ℕ) : Type 0 where
+  pub index : ℕ
+  pub before : index < k
+  pub there : P index
+
+-- the tables with bytes at an offset of the running place's heap, and nothing else altered
+unfoldable pub withOwnBytes : Tables → ℕ → List ℕ → Tables
+withOwnBytes t offset v =
+    record {
+      box = t .box;
+      heaps = sets (t .heaps) (256 * t .box .running + offset) v;
+      shared = t .shared;
+      logRows = t .logRows;
+      logValues = t .logValues;
+      escrowRows = t .escrowRows;
+      escrowValues = t .escrowValues;
+    }
+
+module _ (box : Tables → Element → Result) (es : List Element) where
+  -- at this index the program i logs the bytes v and gets the tag
+  pub record LogsAt (i : ℕ) (v : List ℕ) (tag : Tag) (k : ℕ) : Type 0 where
+    pub offset : ℕ
+    pub size : ℕ
+    pub used : ℕ
+    pub reads : read (elementAt es k .bytes) ≡ whole (attest offset size) used
+    pub accepts : answerAt box es k .code ≡ 0
+    pub by : callerIn (tablesBefore box es k) ≡ i
+    pub bytes : ownBytes (tablesBefore box es k) offset size ≡ v
+    pub gets : answerAt box es k .number ≡ tag .0
+
+  -- at this index the program source protects the bytes v for the recipient and gets the handle
+  pub record ProtectsAt (source recipient : ℕ) (handle : Handle) (v : List ℕ) (k : ℕ) : Type 0 where
+    pub offset : ℕ
+    pub size : ℕ
+    pub draw : Draw
+    pub used : ℕ
+    pub reads : read (elementAt es k .bytes) ≡ whole (protect recipient offset size draw) used
+    pub accepts : answerAt box es k .code ≡ 0
+    pub by : callerIn (tablesBefore box es k) ≡ source
+    pub bytes : ownBytes (tablesBefore box es k) offset size ≡ v
+    pub gets : answerAt box es k .number ≡ handle .0
+
+  -- the call at this index is accepted with this number
+  abbrev pub Says : ℕ → ℕ → Type 0
+  Says n k = (answerAt box es k .code ≡ 0) × (answerAt box es k .number ≡ n)
+
+  -- an accepted retrieve that puts v into the running heap at the offset asked, and alters nothing else
+  pub record HandsOut (offset : ℕ) (v : List ℕ) (k : ℕ) : Type 0 where
+    pub accepts : Says (length v) k
+    pub stands : ownBytes (tablesBefore box es (suc k)) offset (length v) ≡ v
+    pub alters : tablesBefore box es (suc k) ≡ withOwnBytes (tablesBefore box es k) offset v
+
+  -- the output buffer lent at this index has its size
+  abbrev pub Sized : ℕ → Type 0
+  Sized k = elementAt es k .outputSize ≡ 1024
+
+  -- a program runs at this index
+  abbrev pub Runs : ℕ → Type 0
+  Runs k = tablesBefore box es k .box .running ≡ 16 → ⊥
+
+  pub record CheckAt (k i : ℕ) (tag : Tag) (v : List ℕ) : Type 0 where
+    pub yes : Says 1 k ↔ (Sized k × Earlier (LogsAt i v tag) k)
+    pub no : Says 0 k ↔ (Sized k × (i ≡ 0 → ⊥) × (Earlier (LogsAt i v tag) k → ⊥))
+
+  -- the source protected v for the program that runs at k, before k, and got the handle
+  abbrev pub ProtectedBefore : ℕ → ℕ → Handle → List ℕ → Type 0
+  ProtectedBefore k source handle v = Earlier (ProtectsAt source (callerIn (tablesBefore box es k)) handle v) k
+
+  pub record RetrieveAt (k source offset : ℕ) (handle : Handle) : Type 0 where
+    pub hands-out : (v : List ℕ) → HandsOut offset v k ↔ (Sized k × ProtectedBefore k source handle v × (offset + length v ≤ 256))
+    -- what is handed out is unique
+    pub one-value : (v w : List ℕ) → ProtectedBefore k source handle v → ProtectedBefore k source handle w → v ≡ w
+    -- 10: no such escrow row
+    pub not-there : (answerAt box es k .code ≡ 10)
+        ↔ (Sized k × Runs k × (source ≡ 0 → ⊥) × ((v : List ℕ) → ProtectedBefore k source handle v → ⊥))
+    -- 11: it does not fit where it was asked
+    pub too-far : (v : List ℕ) → ProtectedBefore k source handle v
+        → (answerAt box es k .code ≡ 11) ↔ (Sized k × (256 < offset + length v))
+
+-- draw, draw + 1, and so on modulo 2^48
+unfoldable pub candidate : ℕ → ℕ → ℕ → Handle
+candidate size draw k = record { 0 = size * 2 ^ 48 + (draw + k) % 2 ^ 48 }
+
+-- the handle is in an escrow row
+unfoldable pub handleUsed : Tables → Handle → Bool
+handleUsed t h = any (λ r. eqb (r .handle .0) (h .0)) (usedEscrow t)
+
+-- the handle is that of the first free draw, and at most 64 are passed over
+pub record FirstFree (t : Tables) (size draw : ℕ) (handle : Handle) : Type 0 where
+  pub passed : ℕ
+  pub few : passed ≤ 64
+  pub is : handle ≡ candidate size draw passed
+  pub free : handleUsed t handle ≡ false
+  pub used : (k : ℕ) → k < passed → handleUsed t (candidate size draw k) ≡ true
+
+module _ (box : Tables → Element → Result) where
+  abbrev pub CheckIsAccurate : Type 0
+  CheckIsAccurate = (es : List Element) (k i : ℕ) (tag : Tag) (v : List ℕ) (used : ℕ)
+      → read (elementAt es k .bytes) ≡ whole (check i tag v) used → CheckAt box es k i tag v
+
+  abbrev pub RetrieveIsAccurate : Type 0
+  RetrieveIsAccurate = (es : List Element) (k source offset : ℕ) (handle : Handle) (used : ℕ)
+      → read (elementAt es k .bytes) ≡ whole (retrieve source offset handle) used → RetrieveAt box es k source offset handle
+
+  -- no handle is given twice
+  abbrev pub HandleOnce : Type 0
+  HandleOnce = (es : List Element) (handle : Handle) (i₁ r₁ i₂ r₂ : ℕ) (v₁ v₂ : List ℕ) (k₁ k₂ : ℕ)
+      → ProtectsAt box es i₁ r₁ handle v₁ k₁ → ProtectsAt box es i₂ r₂ handle v₂ k₂ → k₁ ≡ k₂
+
+  -- on any sound box, hand-made ones included, an accepted protect gives the first free handle
+  abbrev pub HandleIsFirstFree : Type 0
+  HandleIsFirstFree = (t : Tables) (e : Element) (i o n : ℕ) (d : Draw) (used : ℕ)
+      → read (e .bytes) ≡ whole (protect i o n d) used → box t e .answer .code ≡ 0
+      → FirstFree t n (d .0) (record { 0 = box t e .answer .number })

@@ -1,0 +1,58 @@
+-- The whole box on the host's tables, and runs of it from a fresh box.
+use Prim.Native.Nat.{ℕ}
+use mathlib.Core.Bool.{Bool, _&&_, cond}
+use mathlib.Core.List.{List, [], _∷_, _++_}
+use lib.ListN.{length, getD, take, drop}
+use Rattle.ideal.specs.Step.{Answer, Outcome, refusedAnswer, stepOn}
+use Rattle.ideal.specs.Tables.{Tables, tables, stateOf, freshTables}
+use Rattle.ideal.specs.Soundness.{sizesRight, sound}
+
+-- what a call is given besides the tables: any bytes to read as a record, and the size of the output buffer
+pub record Element : Type 0 where
+  pub bytes : List ℕ
+  pub outputSize : ℕ
+
+pub record Result : Type 0 where
+  pub tables : Tables
+  pub answer : Answer
+
+unfoldable pub laid : Outcome → Result
+laid o = record { tables = tables (o .state); answer = o .answer }
+
+-- a lent buffer isn't of its size, or the box isn't sound
+unfoldable pub unsound : Tables → Result
+unsound t = record { tables = t; answer = refusedAnswer 15 0 0 }
+
+-- the box: 15 first of all, else the step of the state that the tables stand for, laid out again
+unfoldable pub callOn : Tables → Element → Result
+callOn t e = cond (sizesRight t (e .outputSize) && sound t) (laid (stepOn (stateOf t) (e .bytes))) (unsound t)
+
+-- the bytes shown stand at the front of the output buffer, the remainder unaltered
+unfoldable pub outputAfter : Answer → List ℕ → List ℕ
+outputAfter a output = a .shown ++ drop (length (a .shown)) output
+
+-- ---- runs: each call gets the tables as the one before left them, refused or not
+
+unfoldable pub elementAt : List Element → ℕ → Element
+elementAt es k = getD es k (record { bytes = []; outputSize = 0 })
+
+module _ (box : Tables → Element → Result) where
+  unfoldable pub tablesFrom : Tables → List Element → Tables
+  tablesFrom t [] = t
+  tablesFrom t (e ∷ es) = tablesFrom (box t e .tables) es
+
+  -- the answers of a list of calls
+  unfoldable pub answersFrom : Tables → List Element → List Answer
+  answersFrom t [] = []
+  answersFrom t (e ∷ es) = box t e .answer ∷ answersFrom (box t e .tables) es
+
+  -- after a list of calls on a fresh box
+  unfoldable pub tablesAfter : List Element → Tables
+  tablesAfter es = tablesFrom freshTables es
+
+  -- just before the call at an index
+  unfoldable pub tablesBefore : List Element → ℕ → Tables
+  tablesBefore es k = tablesAfter (take k es)
+
+  unfoldable pub answerAt : List Element → ℕ → Answer
+  answerAt es k = box (tablesBefore es k) (elementAt es k) .answer

@@ -1,0 +1,135 @@
+-- Document 01's exam cases A to J in one list of records, every kind among them, with the whole answers.
+use Prim.Native.Nat.{ℕ, zero, suc, _/_, _%_, _^_}
+use mathlib.Core.Path.{_≡_}
+use mathlib.Core.List.{List, [], _∷_, map}
+use Rattle.ideal.specs.Step.{Answer}
+use Rattle.ideal.specs.Tables.{freshTables}
+use Rattle.ideal.specs.Box.{Element, callOn, answersFrom}
+
+infix 80 _gives_
+-- the n bytes of a record, as they are written in hexadecimal
+unfoldable pub hex : ℕ → ℕ → List ℕ
+hex zero x = []
+hex (suc n) x = x / 256 ^ n % 256 ∷ hex n x
+
+-- what a call is given, and its whole answer
+pub record Question : Type 0 where
+  pub element : Element
+  pub answer : Answer
+
+unfoldable pub says : (code number used : ℕ) → List ℕ → Answer
+says code number used shown = record { code = code; number = number; used = used; shown = shown }
+
+-- an output buffer of its size is lent
+unfoldable pub _gives_ : List ℕ → Answer → Question
+bytes gives answer = record { element = record { bytes = bytes; outputSize = 1024 }; answer = answer }
+
+unfoldable pub questions : List Question
+questions =
+    -- J: no kind byte
+    hex 1 0x01 gives says 1 0 0 []
+    -- J: bit 0 is down
+    ∷ hex 1 0x02 gives says 2 0 0 []
+    -- create: place 0 for 0x0102030405060708
+    ∷ hex 11 0x07_01_00_0807060504030201 gives says 0 0 11 []
+    -- again: the place is taken
+    ∷ hex 11 0x07_01_00_0807060504030201 gives says 7 0 11 []
+    -- start: place 0
+    ∷ hex 3 0x03_02_00 gives says 0 0 3 []
+    -- again: one already runs
+    ∷ hex 3 0x03_02_00 gives says 5 0 3 []
+    -- heap write: five bytes at 0
+    ∷ hex 12 0x4B_05_00_0000_0500_76616C7565 gives says 0 5 12 []
+    -- two bytes at 254
+    ∷ hex 9 0x4B_05_00_FE00_0200_6F6B gives says 0 2 9 []
+    -- of another place
+    ∷ hex 12 0x4B_05_01_0000_0500_76616C7565 gives says 8 0 12 []
+    -- A: protect for 0x1112131415161718, length 5, draw 7
+    ∷ hex 22 0x3D_0B_1817161514131211_0000_0500_0700000000000000 gives says 0 1407374883553287 22 []
+    -- B: again
+    ∷ hex 22 0x3D_0B_1817161514131211_0000_0500_0700000000000000 gives says 0 1407374883553288 22 []
+    -- C: length 0, draw 281474976710655
+    ∷ hex 22 0x3D_0B_1817161514131211_0000_0000_FFFFFFFFFFFF0000 gives says 0 281474976710655 22 []
+    -- D: again
+    ∷ hex 22 0x3D_0B_1817161514131211_0000_0000_FFFFFFFFFFFF0000 gives says 0 0 22 []
+    -- draw 281474976710656
+    ∷ hex 22 0x3D_0B_1817161514131211_0000_0000_0000000000000100 gives says 12 0 22 []
+    -- E: heap read at 256 of length 0
+    ∷ hex 7 0x1B_06_00_0001_0000 gives says 0 0 7 []
+    -- F: at 256 of length 1
+    ∷ hex 7 0x1B_06_00_0001_0100 gives says 11 0 7 []
+    -- G: create at place 15
+    ∷ hex 11 0x07_01_0F_1817161514131211 gives says 0 15 11 []
+    -- H: at place 16
+    ∷ hex 11 0x07_01_10_1817161514131211 gives says 6 0 11 []
+    -- I: retrieve by another identity than the recipient, offset 300
+    ∷ hex 20 0x2D_0C_0807060504030201_2C01_0700000000000500 gives says 10 0 20 []
+    -- attest the five bytes
+    ∷ hex 6 0x19_09_0000_0500 gives says 0 6060766691954724538 6 []
+    -- again: the same tag
+    ∷ hex 6 0x19_09_0000_0500 gives says 0 6060766691954724538 6 []
+    -- attest the two
+    ∷ hex 6 0x19_09_FE00_0200 gives says 0 7741120448079519903 6 []
+    -- check the five
+    ∷ hex 25 0x65_0A_0807060504030201_BA0E7BEC312B1C54_0500_76616C7565 gives says 0 1 25 []
+    -- check the two
+    ∷ hex 22 0x65_0A_0807060504030201_9FE04A8708FC6D6B_0200_6F6B gives says 0 1 22 []
+    -- other bytes with the tag of the five
+    ∷ hex 25 0x65_0A_0807060504030201_BA0E7BEC312B1C54_0500_6E616D6564 gives says 0 0 25 []
+    -- other bytes with their own tag, which was never given
+    ∷ hex 25 0x65_0A_0807060504030201_563049534231ABEC_0500_6E616D6564 gives says 0 0 25 []
+    -- the five with another tag
+    ∷ hex 25 0x65_0A_0807060504030201_563049534231ABEC_0500_76616C7565 gives says 0 0 25 []
+    -- another identity with its own tag
+    ∷ hex 25 0x65_0A_1817161514131211_9A78E3EECB7AAE01_0500_76616C7565 gives says 0 0 25 []
+    -- identity 0
+    ∷ hex 25 0x65_0A_0000000000000000_BA0E7BEC312B1C54_0500_76616C7565 gives says 9 0 25 []
+    -- shared write: the last five bytes
+    ∷ hex 11 0x49_07_FB03_0500_76616C7565 gives says 0 5 11 []
+    -- shared read: the last six
+    ∷ hex 6 0x19_08_FA03_0600 gives says 0 6 6 (hex 6 0x0076616C7565)
+    -- report, with an output buffer of 1,023 bytes
+    ∷ record { element = record { bytes = hex 2 0x01_0D; outputSize = 1023 }; answer = says 15 0 0 [] }
+    -- with the map of a start
+    ∷ hex 3 0x03_0D_00 gives says 3 0 0 []
+    -- yield
+    ∷ hex 2 0x01_03 gives says 0 0 2 []
+    -- again: none runs
+    ∷ hex 2 0x01_03 gives says 4 0 2 []
+    -- report: two services, two log rows, four escrow rows
+    ∷ hex 2 0x01_0D gives says 0 262658 2 []
+    -- start: place 0
+    ∷ hex 3 0x03_02_00 gives says 0 0 3 []
+    -- heap read: the last three bytes, retained
+    ∷ hex 7 0x1B_06_00_FD00_0300 gives says 0 3 7 (hex 3 0x006F6B)
+    -- yield
+    ∷ hex 2 0x01_03 gives says 0 0 2 []
+    -- start: place 15
+    ∷ hex 3 0x03_02_0F gives says 0 0 3 []
+    -- retrieve A's value at 252: it does not fit
+    ∷ hex 20 0x2D_0C_0807060504030201_FC00_0700000000000500 gives says 11 0 20 []
+    -- at 251
+    ∷ hex 20 0x2D_0C_0807060504030201_FB00_0700000000000500 gives says 0 5 20 []
+    -- from another source
+    ∷ hex 20 0x2D_0C_1817161514131211_FB00_0700000000000500 gives says 10 0 20 []
+    -- heap read: the last six bytes
+    ∷ hex 7 0x1B_06_0F_FA00_0600 gives says 0 6 7 (hex 6 0x0076616C7565)
+    -- exit
+    ∷ hex 2 0x01_04 gives says 0 0 2 []
+    -- create: place 15 for the next tenant
+    ∷ hex 11 0x07_01_0F_0807060504030201 gives says 0 15 11 []
+    -- start: place 15
+    ∷ hex 3 0x03_02_0F gives says 0 0 3 []
+    -- heap read: nothing is left
+    ∷ hex 7 0x1B_06_0F_FA00_0600 gives says 0 6 7 (hex 6 0x000000000000)
+    ∷ []
+
+unfoldable pub paper : List Element
+paper = map (λ q. q .element) questions
+
+unfoldable pub sheet : List Answer
+sheet = map (λ q. q .answer) questions
+
+-- the box's answers to the whole paper, from a fresh box
+abbrev pub Exam : Type 0
+Exam = answersFrom callOn freshTables paper ≡ sheet

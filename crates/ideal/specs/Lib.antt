@@ -1,0 +1,15 @@
+pub mod State
+pub mod Step
+pub mod Tables
+pub mod Soundness
+pub mod Box
+pub mod Valid
+pub mod Layouts
+pub mod SoundBoxes
+pub mod Refusals
+pub mod Answers
+pub mod History
+pub mod Accuracy
+pub mod Secrecy
+pub mod Witness
+pub mod Exam

@@ -1,0 +1,301 @@
+-- The thirteen calls on the state: their tests, effects, answer numbers and shown bytes (document 01's table).
+use Prim.Native.Nat.{ℕ, zero, suc, _+_, _*_, _%_, _^_}
+use mathlib.Core.Bool.{Bool, true, false, not, _&&_, _||_, cond}
+use mathlib.Core.List.{List, [], _∷_, _++_}
+use mathlib.Core.Option.{Option, none, some}
+use lib.ListN.{length, set, replicate}
+use lib.Seq.{sets}
+use lib.Dec.{eqb, ltb, leb}
+use Rattle.fnv.specs.declared.Tag.{Tag}
+use Rattle.fnv.specs.Fnv.{tagOf}
+use Rattle.record.specs.declared.Handle.{Handle}
+use Rattle.record.specs.declared.Draw.{Draw}
+use Rattle.record.specs.Call.{Call, create, start, yield, exit, heapWrite, heapRead, sharedWrite, sharedRead, attest, check, protect, retrieve, report}
+use Rattle.record.specs.Read.{Reading, refused, whole, read}
+use Rattle.ideal.specs.State.{Entry, Logged, Escrowed, State, cleared, identityAt, heapAt, caller, part, ownPart, any, find, sameBytes, bytesUsed}
+
+infixr 20 _then_
+-- ---- the log
+
+unfoldable pub isPair : ℕ → List ℕ → Logged → Bool
+isPair i v r = eqb (r .key .identity) i && sameBytes (r .value) v
+
+unfoldable pub isLogged : ℕ → Tag → List ℕ → Logged → Bool
+isLogged i g v r = eqb (r .key .identity) i && (eqb (r .key .tag .0) (g .0) && sameBytes (r .value) v)
+
+-- the pair (identity, value) is in the log
+unfoldable pub paired : ℕ → List ℕ → List Logged → Bool
+paired i v l = any (isPair i v) l
+
+-- (identity, value, tag) is in the log
+unfoldable pub logged : ℕ → Tag → List ℕ → List Logged → Bool
+logged i g v l = any (isLogged i g v) l
+
+-- 64 rows are used, or the bytes used with these above 4,096
+unfoldable pub full : {Key : Type 0} → List (Entry Key) → ℕ → Bool
+full l size = eqb (length l) 64 || ltb 4096 (bytesUsed l + size)
+
+-- the log after a pair is attested: one entry more, or the same
+unfoldable pub withPair : ℕ → List ℕ → List Logged → List Logged
+withPair i v l = cond (paired i v l) l (l ++ (record { key = record { identity = i; tag = tagOf i v }; value = v } ∷ []))
+
+-- ---- the escrow
+
+unfoldable pub isEscrowed : Handle → ℕ → ℕ → Escrowed → Bool
+isEscrowed h source recipient r =
+    eqb (r .key .handle .0) (h .0) && (eqb (r .key .source) source && eqb (r .key .recipient) recipient)
+
+-- what the source escrowed for the running program under the handle
+unfoldable pub found : State → ℕ → Handle → Option Escrowed
+found s source h = find (isEscrowed h source (caller s)) (s .escrow)
+
+unfoldable pub absent : Option Escrowed → Bool
+absent none = true
+absent (some r) = false
+
+unfoldable pub valueIn : Option Escrowed → List ℕ
+valueIn none = []
+valueIn (some r) = r .value
+
+unfoldable pub hasHandle : Handle → Escrowed → Bool
+hasHandle h r = eqb (r .key .handle .0) (h .0)
+
+-- handle: length times 2^48 plus a draw
+unfoldable pub handleOf : ℕ → ℕ → Handle
+handleOf size draw = record { 0 = size * 2 ^ 48 + draw }
+
+-- the draw after a draw whose handle is in an escrow row
+unfoldable pub next : ℕ → ℕ
+next draw = (draw + 1) % 2 ^ 48
+
+-- the handle of the first free draw, where at most n are passed over
+unfoldable pub freeFrom : ℕ → ℕ → ℕ → List Escrowed → Handle
+freeFrom zero size draw l = handleOf size draw
+freeFrom (suc n) size draw l =
+    let later = freeFrom n size (next draw) l in
+    cond (any (hasHandle (handleOf size draw)) l) later (handleOf size draw)
+
+unfoldable pub freeHandle : ℕ → Draw → List Escrowed → Handle
+freeHandle size draw l = freeFrom 64 size (draw .0) l
+
+-- ---- refusals: the tests of each kind, rising
+
+pub data Tests : Type 0 where
+  accept : Tests
+  _then_ : ℕ × Bool → Tests → Tests
+
+-- the number of the first test that holds; 0 where none does
+unfoldable pub first : Tests → ℕ
+first accept = 0
+first (t then ts) = cond (t .1) (t .0) (first ts)
+
+unfoldable pub idle : State → Bool
+idle s = eqb (s .running) 16
+
+unfoldable pub vacant : State → ℕ → Bool
+vacant s p = eqb (identityAt s p) 0
+
+unfoldable pub beyond : ℕ → ℕ → ℕ → Bool
+beyond limit offset size = ltb limit (offset + size)
+
+unfoldable pub tests : State → Call → Tests
+tests s (create p i) = (6, ltb 15 p) then (7, not (vacant s p)) then (9, eqb i 0) then accept
+tests s (start p) = (5, not (idle s)) then (6, ltb 15 p) then (7, vacant s p) then accept
+tests s yield = (4, idle s) then accept
+tests s exit = (4, idle s) then accept
+tests s (heapWrite p o v) =
+    (4, idle s) then (6, ltb 15 p) then (8, not (eqb p (s .running))) then (11, beyond 256 o (length v)) then accept
+tests s (heapRead p o n) =
+    (4, idle s) then (6, ltb 15 p) then (8, not (eqb p (s .running))) then (11, beyond 256 o n) then accept
+tests s (sharedWrite o v) = (11, beyond 1024 o (length v)) then accept
+tests s (sharedRead o n) = (11, beyond 1024 o n) then accept
+tests s (attest o n) =
+    (4, idle s) then (11, beyond 256 o n)
+    then (13, not (paired (caller s) (ownPart s o n) (s .log)) && full (s .log) n) then accept
+tests s (check i g v) = (9, eqb i 0) then accept
+tests s (protect i o n d) =
+    (4, idle s) then (9, eqb i 0) then (11, beyond 256 o n) then (12, leb (2 ^ 48) (d .0)) then (14, full (s .escrow) n)
+    then accept
+tests s (retrieve i o h) =
+    (4, idle s) then (9, eqb i 0) then (10, absent (found s i h))
+    then (11, beyond 256 o (length (valueIn (found s i h)))) then accept
+tests s report = accept
+
+unfoldable pub refusal : State → Call → ℕ
+refusal s c = first (tests s c)
+
+-- ---- what an accepted call does
+
+unfoldable pub withHeap : State → List ℕ → State
+withHeap s h =
+    record {
+      identities = s .identities;
+      running = s .running;
+      heaps = set (s .heaps) (s .running) h;
+      shared = s .shared;
+      log = s .log;
+      escrow = s .escrow;
+    }
+
+unfoldable pub withRunning : State → ℕ → State
+withRunning s p =
+    record {
+      identities = s .identities;
+      running = p;
+      heaps = s .heaps;
+      shared = s .shared;
+      log = s .log;
+      escrow = s .escrow;
+    }
+
+unfoldable pub withIdentity : State → ℕ → ℕ → State
+withIdentity s p i =
+    record {
+      identities = set (s .identities) p i;
+      running = s .running;
+      heaps = s .heaps;
+      shared = s .shared;
+      log = s .log;
+      escrow = s .escrow;
+    }
+
+unfoldable pub withShared : State → List ℕ → State
+withShared s m =
+    record {
+      identities = s .identities;
+      running = s .running;
+      heaps = s .heaps;
+      shared = m;
+      log = s .log;
+      escrow = s .escrow;
+    }
+
+unfoldable pub withLog : State → List Logged → State
+withLog s l =
+    record {
+      identities = s .identities;
+      running = s .running;
+      heaps = s .heaps;
+      shared = s .shared;
+      log = l;
+      escrow = s .escrow;
+    }
+
+unfoldable pub withEscrow : State → List Escrowed → State
+withEscrow s l =
+    record {
+      identities = s .identities;
+      running = s .running;
+      heaps = s .heaps;
+      shared = s .shared;
+      log = s .log;
+      escrow = l;
+    }
+
+-- the running heap with bytes at an offset
+unfoldable pub written : State → ℕ → List ℕ → State
+written s o v = withHeap s (sets (heapAt s (s .running)) o v)
+
+-- the entry that an accepted protect adds
+unfoldable pub protected : State → ℕ → ℕ → ℕ → Draw → Escrowed
+protected s recipient o n d =
+    record {
+      key = record { source = caller s; recipient = recipient; handle = freeHandle n d (s .escrow) };
+      value = ownPart s o n;
+    }
+
+unfoldable pub effect : State → Call → State
+effect s (create p i) = withIdentity s p i
+effect s (start p) = withRunning s p
+effect s yield = withRunning s 16
+effect s exit = withRunning (withIdentity (withHeap s cleared) (s .running) 0) 16
+effect s (heapWrite p o v) = written s o v
+effect s (heapRead p o n) = s
+effect s (sharedWrite o v) = withShared s (sets (s .shared) o v)
+effect s (sharedRead o n) = s
+effect s (attest o n) = withLog s (withPair (caller s) (ownPart s o n) (s .log))
+effect s (check i g v) = s
+effect s (protect i o n d) = withEscrow s (s .escrow ++ (protected s i o n d ∷ []))
+effect s (retrieve i o h) = written s o (valueIn (found s i h))
+effect s report = s
+
+-- ---- what it answers
+
+-- how many places are taken
+unfoldable pub services : List ℕ → ℕ
+services [] = 0
+services (i ∷ is) = cond (eqb i 0) (services is) (1 + services is)
+
+unfoldable pub number : State → Call → ℕ
+number s (create p i) = p
+number s (start p) = 0
+number s yield = 0
+number s exit = 0
+number s (heapWrite p o v) = length v
+number s (heapRead p o n) = n
+number s (sharedWrite o v) = length v
+number s (sharedRead o n) = n
+number s (attest o n) = tagOf (caller s) (ownPart s o n) .0
+number s (check i g v) = cond (logged i g v (s .log)) 1 0
+number s (protect i o n d) = freeHandle n d (s .escrow) .0
+number s (retrieve i o h) = length (valueIn (found s i h))
+number s report = services (s .identities) + 256 * length (s .log) + 65536 * length (s .escrow)
+
+unfoldable pub shown : State → Call → List ℕ
+shown s (create p i) = []
+shown s (start p) = []
+shown s yield = []
+shown s exit = []
+shown s (heapWrite p o v) = []
+shown s (heapRead p o n) = ownPart s o n
+shown s (sharedWrite o v) = []
+shown s (sharedRead o n) = part (s .shared) o n
+shown s (attest o n) = []
+shown s (check i g v) = []
+shown s (protect i o n d) = []
+shown s (retrieve i o h) = []
+shown s report = []
+
+-- ---- a step
+
+-- answer: code (0 or a refusal), number, record bytes used, and bytes shown
+pub record Answer : Type 0 where
+  pub code : ℕ
+  pub number : ℕ
+  pub used : ℕ
+  pub shown : List ℕ
+
+-- a refusal shows nothing
+unfoldable pub refusedAnswer : (code number used : ℕ) → Answer
+refusedAnswer code number used = record { code = code; number = number; used = used; shown = [] }
+
+pub record Outcome : Type 0 where
+  pub state : State
+  pub answer : Answer
+
+-- a refusal alters nothing
+unfoldable pub refuse : State → (code number used : ℕ) → Outcome
+refuse s code number used = record { state = s; answer = refusedAnswer code number used }
+
+unfoldable pub accepted : State → Call → ℕ → Outcome
+accepted s c used =
+    record {
+      state = effect s c;
+      answer = record { code = 0; number = number s c; used = used; shown = shown s c };
+    }
+
+-- refusal 0 is none
+unfoldable pub settle : ℕ → State → Call → ℕ → Outcome
+settle zero s c used = accepted s c used
+settle (suc n) s c used = refuse s (suc n) 0 used
+
+unfoldable pub step : State → Call → ℕ → Outcome
+step s c used = settle (refusal s c) s c used
+
+unfoldable pub onReading : State → Reading → Outcome
+onReading s (refused code number) = refuse s code number 0
+onReading s (whole c used) = step s c used
+
+-- a record's bytes, read and carried out
+unfoldable pub stepOn : State → List ℕ → Outcome
+stepOn s bytes = onReading s (read bytes)

@@ -1,0 +1,37 @@
+// The box record and the rows that a host holds.
+use fnv::Tag;
+use record::Handle;
+
+// The used-counts of a table.
+#[repr(C)]
+pub struct Used {
+    pub rows: u16,
+    pub bytes: u16,
+}
+
+// Bit p of taken stands when place p is taken; running is 0 to 15, or 16 when none runs.
+#[repr(C)]
+pub struct BoxRecord {
+    pub taken: u16,
+    pub running: u8,
+    pub identities: [u64; 16],
+    pub log: Used,
+    pub escrow: Used,
+}
+
+#[repr(C)]
+pub struct LogRow {
+    pub identity: u64,
+    pub tag: Tag,
+    pub first: u16,
+    pub length: u16,
+}
+
+#[repr(C)]
+pub struct EscrowRow {
+    pub source: u64,
+    pub recipient: u64,
+    pub handle: Handle,
+    pub first: u16,
+    pub length: u16,
+}
