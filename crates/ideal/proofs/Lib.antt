@@ -9,11 +9,14 @@ pub mod Table
 pub mod Heaps
 pub mod Memory
 pub mod OwnHeap
+pub mod HeapBytes
 pub mod CallNumbers
 pub mod Kept
 pub mod Facts
 pub mod Laid
 pub mod SoundStates
+pub mod Fit
+pub mod More
 pub mod Runs
 pub mod Numbers
 pub mod Accepts

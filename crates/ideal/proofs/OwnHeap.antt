@@ -34,7 +34,7 @@ module _ {A : Type 0} where
 
 -- ---- a heap among the heaps
 
-flat-sets : (hs : List (List ℕ)) (p o : ℕ) (v : List ℕ) → Sized hs → p < length hs → o + length v ≤ 256
+pub flat-sets : (hs : List (List ℕ)) (p o : ℕ) (v : List ℕ) → Sized hs → p < length hs → o + length v ≤ 256
     → flat (set hs p (sets (getD hs p []) o v)) ≡ sets (flat hs) (256 * p + o) v
 unfolding flat
 flat-sets [] p o v z h f = absurd (omega arith)

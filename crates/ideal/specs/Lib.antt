@@ -13,3 +13,4 @@ pub mod Accuracy
 pub mod Secrecy
 pub mod Witness
 pub mod Exam
+pub mod Fit

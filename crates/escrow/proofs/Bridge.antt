@@ -1,0 +1,214 @@
+-- What protect and retrieve do to the tables of a valid state is the step of that state, laid out. Assumes nothing.
+use Prim.Native.Nat.{ℕ, zero, suc, _+_, _^_, _≤_, _<_}
+use mathlib.Core.Path.{_≡_, refl, sym, ap, _∙_}
+use mathlib.Core.List.{List, [], _∷_, _++_}
+use native.Mathlib.Omega.{arith}
+use lib.ListN.{length}
+use lib.Seq.{sets}
+use lib.Dec.{eqb, leb}
+use borrow.Author.Tests.{eqb-false, ltb-false}
+use Rattle.record.specs.declared.Handle.{Handle}
+use Rattle.record.specs.declared.Draw.{Draw}
+use Rattle.record.specs.Call.{protect, retrieve}
+use Rattle.ideal.specs.declared.BoxRecord.{BoxRecord}
+use Rattle.ideal.specs.declared.EscrowRow.{EscrowRow}
+use Rattle.ideal.specs.declared.Used.{Used}
+use Rattle.ideal.specs.State.{State, EscrowKey, Escrowed, part, ownPart, heapAt}
+use Rattle.ideal.specs.Step.{found, absent, valueIn, freeHandle, full, _then_, accept, first, idle, beyond, tests, refusal, withEscrow, protected, effect, number, shown, step}
+use Rattle.ideal.specs.Tables.{Tables, escrowTable, usedBy, boxRecord, tables, stateOf}
+use Rattle.ideal.specs.Box.{Result, laid}
+use Rattle.ideal.proofs.Chain.{failed, passed}
+use Rattle.ideal.specs.Valid.{Valid}
+use Rattle.ideal.proofs.Table.{part-length, Stands, escrow-lawful}
+use Rattle.ideal.proofs.Fit.{rows-fit}
+use Rattle.ideal.proofs.More.{row-added, value-added, counts-raised}
+use Rattle.ideal.proofs.HeapBytes.{replaceHeaps, own-bytes, written-bytes}
+use Rattle.state.specs.Answers.{settled}
+use Rattle.state.proofs.Settled.{answerOf, settledResult, part-settled, Moves, laid-step}
+use Rattle.escrow.specs.Narrow.{EscrowFits, callerOf, heapByte, escrowOf, fullBy, Room, EscrowResult, moreEscrow, protectUnless, protectRefusal, protectOn, foundOn, retrieveRefusal, retrieveAnswer, retrieveHeaps}
+use Rattle.escrow.proofs.Steps.{has-room}
+
+-- what protect and retrieve require of the escrow, of a sound one
+pub escrow-fits : {rows : List EscrowRow} {values : List ℕ} {used : Used} → Stands escrowTable rows values used
+    → EscrowFits used rows values
+escrow-fits {rows} {values} {used} s =
+    record { few = s .few; size = s .value-count; fit = rows-fit escrowTable rows values used s }
+
+-- ---- what an accepted call passed
+
+record HeapFits (running offset size : ℕ) : Type 0 where
+  runs : running < 16
+  within : offset + size ≤ 256
+
+record Protects (b : BoxRecord) (offset size : ℕ) : Type 0 where
+  heap : HeapFits (b .running) offset size
+  room : Room (b .escrow) size
+
+protects : (b : BoxRecord) (i o n : ℕ) (d : Draw) → b .running ≤ 16 → b .escrow .rows ≤ 64 → protectRefusal b i o n d ≡ 0
+    → Protects b o n
+unfolding protectRefusal beyond
+protects b i o n d r l e =
+    let e₁ = passed 3 (eqb (b .running) 16) _ e in
+    let e₂ = passed 8 (eqb i 0) _ e₁ in
+    let e₃ = passed 10 (beyond 256 o n) _ e₂ in
+    let e₄ = passed 11 (leb (2 ^ 48) (d .0)) _ e₃ in
+    let busy = eqb-false (b .running) 16 (failed 3 (eqb (b .running) 16) _ e) in
+    record {
+      heap = record { runs = omega arith; within = ltb-false 256 (o + n) (failed 10 (beyond 256 o n) _ e₂) };
+      room = has-room (b .escrow) n l (failed 13 (fullBy (b .escrow) n) _ e₄);
+    }
+
+-- ---- the host's tables with the parts of the escrow replaced
+
+abbrev pub replaceEscrow : Tables → EscrowResult → Tables
+replaceEscrow t r =
+    record {
+      box = r .held;
+      heaps = t .heaps;
+      shared = t .shared;
+      logRows = t .logRows;
+      logValues = t .logValues;
+      escrowRows = r .rows;
+      escrowValues = r .values;
+    }
+
+-- and the whole answer
+abbrev pub onEscrow : Tables → EscrowResult → ℕ → Result
+onEscrow t r used = record { tables = replaceEscrow t r; answer = answerOf (r .answer) used [] }
+
+abbrev withMore : Tables → EscrowKey → List ℕ → Tables
+withMore t k v = replaceEscrow t (moreEscrow (t .box) (t .escrowRows) (t .escrowValues) k v)
+
+-- one entry more
+added : (s : State) (x : Escrowed) → Room (usedBy (s .escrow)) (length (x .value))
+    → tables (withEscrow s (s .escrow ++ (x ∷ []))) ≡ withMore (tables s) (x .key) (x .value)
+unfolding tables boxRecord withEscrow moreEscrow
+added s x room = λ j.
+    record {
+      box =
+          record {
+            taken = boxRecord s .taken;
+            running = s .running;
+            identities = s .identities;
+            log = boxRecord s .log;
+            escrow = counts-raised (s .escrow) x j;
+          };
+      heaps = tables s .heaps;
+      shared = s .shared;
+      logRows = tables s .logRows;
+      logValues = tables s .logValues;
+      escrowRows = row-added escrow-lawful (s .escrow) x (room .row) j;
+      escrowValues = value-added (s .escrow) x (room .bytes) j;
+    }
+
+module _ (t : Tables) (k : Valid (stateOf t)) (e : tables (stateOf t) ≡ t) where
+  counts : usedBy (stateOf t .escrow) ≡ t .box .escrow
+  unfolding tables boxRecord
+  counts = ap (λ x. x .box .escrow) e
+
+  -- ---- protect
+
+  module _ (i o n : ℕ) (d : Draw) where
+    abbrev value : List ℕ
+    value = part (t .heaps) (heapByte (t .box) o) n
+
+    abbrev key : EscrowKey
+    key =
+        record {
+          source = callerOf (t .box);
+          recipient = i;
+          handle = freeHandle (length value) d (escrowOf (t .box) (t .escrowRows) (t .escrowValues));
+        }
+
+    protect-refusal : refusal (stateOf t) (protect i o n d) ≡ protectRefusal (t .box) i o n d
+    unfolding refusal tests protectRefusal idle full fullBy stateOf
+    protect-refusal =
+        ap (λ u.
+        first
+        ((4, eqb (t .box .running) 16) then (9, eqb i 0) then (11, beyond 256 o n) then (12, leb (2 ^ 48) (d .0))
+        then (14, fullBy u n) then accept)) counts
+
+    passes : refusal (stateOf t) (protect i o n d) ≡ 0 → Protects (t .box) o n
+    unfolding stateOf
+    passes r =
+        let m = ap (λ u. u .rows) counts in
+        protects (t .box) i o n d (k .runs) (omega (arith, k .escrow .few)) (sym protect-refusal ∙ r)
+
+    module _ (f : HeapFits (t .box .running) o n) where
+      value-is : ownPart (stateOf t) o n ≡ value
+      value-is = own-bytes t k e o n (f .runs) (f .within)
+
+      value-size : length value ≡ n
+      unfolding ownPart stateOf
+      value-size =
+          let h = heapAt (stateOf t) (t .box .running) in
+          ap length (sym value-is) ∙ part-length h o n (omega (arith, f .within, k .sizes (t .box .running) (f .runs)))
+
+      entry-is : protected (stateOf t) i o n d ≡ record { key = key; value = value }
+      unfolding protected stateOf
+      entry-is = rw (value-is, value-size)
+
+    protect-moves : Moves t (withMore t key value) (protect i o n d) (key .handle .0) []
+    unfolding effect number shown stateOf
+    protect-moves =
+        record {
+          leaves = λ r.
+              let p = passes r in
+              let room = rw (← value-size (p .heap), ← counts) at (p .room) in
+              rw (entry-is (p .heap))
+              (added (stateOf t) (record { key = key; value = value }) room ∙ ap (λ x. withMore x key value) e);
+          answers = λ r. rw (value-size (passes r .heap));
+          shows = λ r. refl;
+        }
+
+    protect-settled : (r used : ℕ) → settledResult r t (withMore t key value) (key .handle .0) [] used
+        ≡ onEscrow t (protectUnless r (t .box) (t .escrowRows) (t .escrowValues) (callerOf (t .box)) i d value) used
+    unfolding protectUnless moreEscrow settled
+    protect-settled zero used = refl
+    protect-settled (suc r) used = refl
+
+    pub protect-step : (used : ℕ) → laid (step (stateOf t) (protect i o n d) used)
+        ≡ onEscrow t (protectOn (t .box) (t .escrowRows) (t .heaps) (t .escrowValues) i o n d) used
+    unfolding protectOn
+    protect-step used =
+        rw protect-refusal at (laid-step used e protect-moves) ∙ protect-settled (protectRefusal (t .box) i o n d) used
+
+  -- ---- retrieve
+
+  module _ (i o : ℕ) (h : Handle) where
+    abbrev refused : ℕ
+    refused = retrieveRefusal (t .box) (t .escrowRows) (t .escrowValues) i o h
+
+    abbrev handed : List ℕ
+    handed = valueIn (foundOn (t .box) (t .escrowRows) (t .escrowValues) i h)
+
+    retrieves : refused ≡ 0 → HeapFits (t .box .running) o (length handed)
+    unfolding retrieveRefusal beyond stateOf
+    retrieves r =
+        let p = t .box .running in
+        let r₁ = passed 3 (eqb p 16) _ r in
+        let r₂ = passed 8 (eqb i 0) _ r₁ in
+        let r₃ = passed 9 (absent (foundOn (t .box) (t .escrowRows) (t .escrowValues) i h)) _ r₂ in
+        let busy = eqb-false p 16 (failed 3 (eqb p 16) _ r) in
+        record {
+          runs = omega (arith, k .runs);
+          within = ltb-false 256 (o + length handed) (failed 10 (beyond 256 o (length handed)) _ r₃);
+        }
+
+    retrieve-moves : Moves t (replaceHeaps t (sets (t .heaps) (heapByte (t .box) o) handed)) (retrieve i o h) (length handed) []
+    unfolding effect number shown refusal tests found retrieveRefusal idle stateOf
+    retrieve-moves =
+        record {
+          leaves = λ r. let p = retrieves r in written-bytes t k e o handed (p .runs) (p .within);
+          answers = λ r. refl;
+          shows = λ r. refl;
+        }
+
+    pub retrieve-step : (used : ℕ) → laid (step (stateOf t) (retrieve i o h) used)
+        ≡ record {
+          tables = replaceHeaps t (retrieveHeaps (t .box) (t .escrowRows) (t .heaps) (t .escrowValues) i o h);
+          answer = answerOf (retrieveAnswer (t .box) (t .escrowRows) (t .escrowValues) i o h) used [];
+        }
+    unfolding retrieveHeaps retrieveAnswer refusal tests found retrieveRefusal idle stateOf
+    retrieve-step used =
+        laid-step used e retrieve-moves ∙ part-settled (replaceHeaps t) (t .heaps) _ refused (length handed) used refl

@@ -1,0 +1,86 @@
+use Prim.Native.Nat.{ℕ, _-_, _≤_}
+use mathlib.Core.Path.{_≡_, refl, sym, _∙_}
+use mathlib.Core.List.{List}
+use native.Mathlib.Omega.{arith}
+use lib.ListN.{length, take, drop, length-take}
+use lib.Seq.{drop-length}
+use borrow.Author.Needs.{needs}
+use Rattle.ideal.specs.State.{find}
+use Rattle.ideal.specs.Step.{isEscrowed}
+use Rattle.ideal.specs.Tables.{escrowTable, entriesOf}
+use Rattle.escrow.specs.Search.{entryFound, Within}
+use Rattle.escrow.proofs.Steps.{one-on}
+use Rattle.escrow.proofs.fetch.find_row.Statement.{statement}
+use Rattle.escrow.proofs.fetch.find_row.Tie as tie
+
+abbrev Inv-loop : tie.InvT-loop
+Inv-loop n handle source recipient rows i₀ i =
+    (i ≤ n)
+    × ((values : List ℕ)
+    → let p = isEscrowed handle source recipient in
+    find p (entriesOf escrowTable values (drop i (take n rows))) ≡ find p (entriesOf escrowTable values (take n rows)))
+
+abbrev μ-loop : tie.MeasureT-loop
+μ-loop n handle source recipient rows i₀ i = n - i
+
+loop-holds : tie.Need-loop-holds Inv-loop μ-loop
+loop-holds c = (omega arith, λ values. refl)
+
+mul-row : tie.Need-mul-row Inv-loop μ-loop
+mul-row c = search needs
+
+array-copy-out-row : tie.Need-array-copy-out-row Inv-loop μ-loop
+array-copy-out-row c = search needs
+
+row-is-requires : tie.Need-row-is-requires Inv-loop μ-loop
+row-is-requires c κs = search needs
+
+returns : tie.Need-returns Inv-loop μ-loop
+unfolding Within entryFound find entriesOf
+returns c =
+    let x = c .before .before .before .before .before .args in
+    let l = c .before .before .before .before .loop in
+    let q : x .n ≤ length (x .t1) = omega (arith, c .before .before .before .before .before .good .0 .1 .0) in
+    let p = c .before .before .before .loop-test .taken in
+    let one = one-on (x .t1) (x .n) (l .i) (escrowTable .blank) p q in
+    (p, λ values. rw (one, sym (c .before .row-is .ensures values) ∙ c .if1 .taken) at (l .inv .1 values))
+
+add-i : tie.Need-add-i Inv-loop μ-loop
+add-i c = omega arith
+
+loop-less : tie.Need-loop-less Inv-loop μ-loop
+loop-less c = omega arith
+
+loop-again : tie.Need-loop-again Inv-loop μ-loop
+unfolding find entriesOf
+loop-again c =
+    let x = c .before .before .before .before .before .args in
+    let l = c .before .before .before .before .loop in
+    let q : x .n ≤ length (x .t1) = omega (arith, c .before .before .before .before .before .good .0 .1 .0) in
+    let p = c .before .before .before .loop-test .taken in
+    let one = one-on (x .t1) (x .n) (l .i) (escrowTable .blank) p q in
+    (omega arith, λ values. rw (one, sym (c .before .row-is .ensures values) ∙ c .if1 .left) at (l .inv .1 values))
+
+returns-2 : tie.Need-returns-2 Inv-loop μ-loop
+unfolding Within entryFound find entriesOf
+returns-2 c =
+    let x = c .before .before .args in
+    let q : x .n ≤ length (x .t1) = omega (arith, c .before .before .good .0 .1 .0) in
+    let e : c .before .loop .i ≡ length (take (x .n) (x .t1)) = simp length-take (omega arith) in
+    (tt, λ values. rw (e, drop-length (take (x .n) (x .t1))) at (c .before .loop .inv .1 values))
+
+pub find-row-spec : {M : Type 1} → statement M
+find-row-spec =
+    tie.close
+    (tie.spec
+    Inv-loop
+    μ-loop
+    loop-holds
+    mul-row
+    array-copy-out-row
+    row-is-requires
+    returns
+    add-i
+    loop-less
+    loop-again
+    returns-2)

@@ -1,0 +1,132 @@
+-- What protect and retrieve leave and answer, on the parts of the box that they are given.
+use Prim.Native.Nat.{ℕ, _+_, _*_, _^_, _≤_, _<_}
+use mathlib.Core.Path.{_≡_}
+use mathlib.Core.Bool.{Bool, _||_}
+use mathlib.Core.List.{List}
+use mathlib.Core.Option.{Option}
+use lib.ListN.{length, getD, take, set}
+use lib.Seq.{sets}
+use lib.Dec.{eqb, ltb, leb}
+use Rattle.record.specs.declared.Handle.{Handle}
+use Rattle.record.specs.declared.Draw.{Draw}
+use Rattle.ideal.specs.declared.BoxRecord.{BoxRecord}
+use Rattle.ideal.specs.declared.EscrowRow.{EscrowRow}
+use Rattle.ideal.specs.declared.Used.{Used}
+use Rattle.ideal.specs.State.{EscrowKey, Escrowed, part, find}
+use Rattle.ideal.specs.Step.{isEscrowed, absent, valueIn, freeHandle, accept, _then_, first, beyond}
+use Rattle.ideal.specs.Tables.{escrowTable, entriesOf}
+use Rattle.ideal.specs.Fit.{RowsFit}
+use Rattle.state.specs.declared.Answer.{Answer}
+use Rattle.state.specs.declared.EscrowAnswer.{EscrowAnswer}
+use Rattle.state.specs.Answers.{refusedWith, acceptedWith, settled, answered}
+
+-- ---- what callers show
+
+-- the used rows are rows of the table, and lie within its value bytes
+pub record EscrowFits (used : Used) (rows : List EscrowRow) (values : List ℕ) : Type 0 where
+  pub few : used .rows ≤ 64
+  pub size : length values ≡ 4096
+  pub fit : RowsFit escrowTable rows (used .rows) (length values)
+
+-- there is a row and n bytes that are not used
+pub record Room (used : Used) (n : ℕ) : Type 0 where
+  pub row : used .rows < 64
+  pub bytes : used .bytes + n ≤ 4096
+
+-- ---- parts of the box
+
+-- the identity of the program that runs
+abbrev pub callerOf : BoxRecord → ℕ
+callerOf b = getD (b .identities) (b .running) 0
+
+-- place p has the 256 bytes from 256 times p
+abbrev pub heapByte : BoxRecord → ℕ → ℕ
+heapByte b o = 256 * b .running + o
+
+-- the escrow that the used rows stand for
+abbrev pub escrowOf : BoxRecord → List EscrowRow → List ℕ → List Escrowed
+escrowOf b rows values = entriesOf escrowTable values (take (b .escrow .rows) rows)
+
+-- the box's `full`, by the counts
+unfoldable pub fullBy : Used → ℕ → Bool
+fullBy used n = eqb (used .rows) 64 || ltb 4096 (used .bytes + n)
+
+-- ---- protect
+
+pub record EscrowResult : Type 0 where
+  pub held : BoxRecord
+  pub rows : List EscrowRow
+  pub values : List ℕ
+  pub answer : Answer
+
+-- an answer with the value bytes at exit
+abbrev pub resultOf : EscrowAnswer → List ℕ → EscrowResult
+resultOf r values = record { held = r .held; rows = r .escrow .rows; values = values; answer = r .answer }
+
+abbrev pub keptEscrow : BoxRecord → List EscrowRow → List ℕ → Answer → EscrowResult
+keptEscrow b rows values answer = record { held = b; rows = rows; values = values; answer = answer }
+
+-- one row and its value more
+unfoldable pub moreEscrow : BoxRecord → List EscrowRow → List ℕ → EscrowKey → List ℕ → EscrowResult
+moreEscrow b rows values k v =
+    let used = b .escrow in
+    record {
+      held =
+          record {
+            taken = b .taken;
+            running = b .running;
+            identities = b .identities;
+            log = b .log;
+            escrow = record { rows = used .rows + 1; bytes = used .bytes + length v };
+          };
+      rows = set rows (used .rows) (escrowTable .row k (used .bytes) (length v));
+      values = sets values (used .bytes) v;
+      answer = acceptedWith (k .handle .0);
+    }
+
+-- a value protected by a source for a recipient under the first free handle, unless it is refused
+unfoldable pub protectUnless : (refusal : ℕ) → BoxRecord → List EscrowRow → (values : List ℕ) → (source recipient : ℕ) → Draw
+    → (value : List ℕ) → EscrowResult
+protectUnless refusal b rows values source recipient d v =
+    let handle = freeHandle (length v) d (escrowOf b rows values) in
+    settled refusal (keptEscrow b rows values (refusedWith refusal))
+    (moreEscrow b rows values (record { source = source; recipient = recipient; handle = handle }) v)
+
+-- the last two of protect's tests alone
+unfoldable pub protectValue : BoxRecord → List EscrowRow → (values : List ℕ) → (source recipient : ℕ) → Draw
+    → (value : List ℕ) → EscrowResult
+protectValue b rows values source recipient d v =
+    protectUnless (first ((12, leb (2 ^ 48) (d .0)) then (14, fullBy (b .escrow) (length v)) then accept))
+    b rows values source recipient d v
+
+unfoldable pub protectRefusal : BoxRecord → (recipient offset size : ℕ) → Draw → ℕ
+protectRefusal b i o n d =
+    first
+    ((4, eqb (b .running) 16) then (9, eqb i 0) then (11, beyond 256 o n) then (12, leb (2 ^ 48) (d .0))
+    then (14, fullBy (b .escrow) n) then accept)
+
+unfoldable pub protectOn : BoxRecord → List EscrowRow → (heaps values : List ℕ) → (recipient offset size : ℕ) → Draw
+    → EscrowResult
+protectOn b rows heaps values i o n d =
+    protectUnless (protectRefusal b i o n d) b rows values (callerOf b) i d (part heaps (heapByte b o) n)
+
+-- ---- retrieve
+
+-- what the source escrowed for the running program under the handle
+abbrev pub foundOn : BoxRecord → List EscrowRow → List ℕ → (source : ℕ) → Handle → Option Escrowed
+foundOn b rows values source h = find (isEscrowed h source (callerOf b)) (escrowOf b rows values)
+
+unfoldable pub retrieveRefusal : BoxRecord → List EscrowRow → List ℕ → (source offset : ℕ) → Handle → ℕ
+retrieveRefusal b rows values i o h =
+    let entry = foundOn b rows values i h in
+    first
+    ((4, eqb (b .running) 16) then (9, eqb i 0) then (10, absent entry)
+    then (11, beyond 256 o (length (valueIn entry))) then accept)
+
+unfoldable pub retrieveAnswer : BoxRecord → List EscrowRow → List ℕ → (source offset : ℕ) → Handle → Answer
+retrieveAnswer b rows values i o h =
+    answered (retrieveRefusal b rows values i o h) (length (valueIn (foundOn b rows values i h)))
+
+unfoldable pub retrieveHeaps : BoxRecord → List EscrowRow → (heaps values : List ℕ) → (source offset : ℕ) → Handle → List ℕ
+retrieveHeaps b rows heaps values i o h =
+    settled (retrieveRefusal b rows values i o h) heaps (sets heaps (heapByte b o) (valueIn (foundOn b rows values i h)))

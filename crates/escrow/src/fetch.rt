@@ -1,0 +1,94 @@
+// Retrieve: the value under a handle copied to its recipient.
+ghost use mathlib.Core.Path.{_≡_};
+ghost use mathlib.Core.List.{List};
+ghost use Prim.Native.Nat.{ℕ, _≤_};
+ghost use lib.ListN.{length, take};
+ghost use Rattle.ideal.specs.State.{find};
+ghost use Rattle.ideal.specs.Step.{isEscrowed};
+ghost use Rattle.ideal.specs.Tables.{escrowTable, entryOf, entriesOf};
+ghost use Rattle.escrow.specs.Search.{entryFound, Within};
+ghost use Rattle.escrow.specs.Narrow.{EscrowFits, retrieveAnswer, retrieveHeaps};
+use ideal::BoxRecord;
+use ideal::EscrowRow;
+use record::Handle;
+use state::Answer;
+use state::EscrowTable;
+use state::accepted;
+use state::copy;
+use state::refused;
+
+// The search's answer: the index of a row, or that there is none.
+pub enum Found {
+    At(usize),
+    Nothing,
+}
+
+// Whether a row has this handle, source and recipient.
+fn row_is(row: EscrowRow, handle: Handle, source: u64, recipient: u64) -> bool
+    ensures { λ r. ⌜ ((values : List ℕ) → r ≡ isEscrowed handle source recipient (entryOf escrowTable values row)) ⌝ }
+{
+    if row.handle.0 != handle.0 {
+        return false;
+    }
+    if row.source != source {
+        return false;
+    }
+    row.recipient == recipient
+}
+
+// The first of the first n rows with this handle, source and recipient.
+fn find_row(rows: [EscrowRow; 64], n: usize, handle: Handle, source: u64, recipient: u64) -> Found
+    requires { ⌜ n ≤ 64 ⌝ }
+    ensures { λ r. ⌜ Within n r ⌝ }
+    ensures { λ r. ⌜ ((values : List ℕ) → entryFound values rows r ≡ find (isEscrowed handle source recipient) (entriesOf escrowTable values (take n rows))) ⌝ }
+{
+    let mut i: usize = 0;
+    while i < n {
+        let row = rows[i];
+        if row_is(row, handle, source, recipient) {
+            return Found::At(i);
+        }
+        i += 1;
+    }
+    Found::Nothing
+}
+
+// The value of the row goes into the running heap at the offset.
+pub fn retrieve(
+    b: BoxRecord,
+    escrow: EscrowTable,
+    heaps: &mut [u8],
+    values: &[u8],
+    source: u64,
+    offset: u16,
+    handle: Handle,
+) -> Answer
+    requires { ⌜ (b .running ≤ 16) × (length (now heaps) ≡ 4096) × EscrowFits (b .escrow) (escrow .rows) (now values) ⌝ }
+    ensures { λ r. ⌜ r ≡ retrieveAnswer b (escrow .rows) (now (values .entry)) source offset handle ⌝ }
+    ensures { λ _. ⌜ now (heaps .exit) ≡ retrieveHeaps b (escrow .rows) (now (heaps .entry)) (now (values .entry)) source offset handle ⌝ }
+{
+    if b.running == 16 {
+        return refused(4);
+    }
+    if source == 0 {
+        return refused(9);
+    }
+    let place = b.running as usize;
+    let used = b.escrow;
+    let rows = escrow.rows;
+    let recipient = b.identities[place];
+    let Found::At(i) = find_row(rows, used.rows as usize, handle, source, recipient) else {
+        return refused(10);
+    };
+    let entry = rows[i];
+    let size = entry.length as usize;
+    if offset as usize + size > 256 {
+        return refused(11);
+    }
+    let from = entry.first as usize;
+    let until = from + size;
+    let start = 256 * place + offset as usize;
+    let end = start + size;
+    copy(&values[from..until], &mut heaps[start..end]);
+    accepted(size as u64)
+}

@@ -1,0 +1,150 @@
+// Protect: a value stored for a recipient under a free handle.
+ghost use mathlib.Core.Path.{_≡_};
+ghost use Prim.Native.Nat.{_≤_};
+ghost use lib.ListN.{length};
+ghost use Rattle.escrow.specs.Narrow.{EscrowFits, Room, resultOf, fullBy, moreEscrow, protectValue, protectOn};
+use crate::free::free_handle;
+use ideal::BoxRecord;
+use ideal::EscrowRow;
+use ideal::Used;
+use record::Draw;
+use record::Handle;
+use state::EscrowAnswer;
+use state::EscrowTable;
+use state::accepted;
+use state::copy;
+use state::refused;
+
+// Whether all rows are used, or size bytes more are too many.
+fn is_full(used: Used, size: usize) -> bool
+    requires { ⌜ size ≤ 256 ⌝ }
+    ensures { λ r. ⌜ r ≡ fullBy used size ⌝ }
+{
+    if used.rows == 64 {
+        return true;
+    }
+    used.bytes as usize + size > 4096
+}
+
+// The escrow with one row and its value more.
+fn escrow_more(
+    b: BoxRecord,
+    escrow: EscrowTable,
+    values: &mut [u8],
+    source: u64,
+    recipient: u64,
+    handle: Handle,
+    value: &[u8],
+) -> EscrowAnswer
+    requires { ⌜ (length (now values) ≡ 4096) × Room (b .escrow) (length (now value)) ⌝ }
+    ensures { λ r. ⌜ resultOf r (now (values .exit)) ≡ moreEscrow b (escrow .rows) (now (values .entry)) (record { source = source; recipient = recipient; handle = handle }) (now (value .entry)) ⌝ }
+{
+    let used = b.escrow;
+    let start = used.bytes as usize;
+    let end = start + value.len();
+    copy(value, &mut values[start..end]);
+    let row = EscrowRow {
+        source,
+        recipient,
+        handle,
+        first: used.bytes,
+        length: value.len() as u16,
+    };
+    let i = used.rows as usize;
+    let mut more = escrow;
+    more.rows[i] = row;
+    let raised = Used {
+        rows: used.rows + 1,
+        bytes: end as u16,
+    };
+    let mut next = b;
+    next.escrow = raised;
+    EscrowAnswer {
+        held: next,
+        escrow: more,
+        answer: accepted(handle.0),
+    }
+}
+
+// A value stored under the first free handle.
+fn protect_value(
+    b: BoxRecord,
+    escrow: EscrowTable,
+    values: &mut [u8],
+    source: u64,
+    recipient: u64,
+    draw: Draw,
+    value: &[u8],
+) -> EscrowAnswer
+    requires { ⌜ (b .escrow .rows ≤ 64) × (length (now values) ≡ 4096) × (length (now value) ≤ 256) ⌝ }
+    ensures { λ r. ⌜ resultOf r (now (values .exit)) ≡ protectValue b (escrow .rows) (now (values .entry)) source recipient draw (now (value .entry)) ⌝ }
+{
+    if draw.0 >= 281474976710656 {
+        return EscrowAnswer {
+            held: b,
+            escrow,
+            answer: refused(12),
+        };
+    }
+    let used = b.escrow;
+    if is_full(used, value.len()) {
+        return EscrowAnswer {
+            held: b,
+            escrow,
+            answer: refused(14),
+        };
+    }
+    let rows = escrow.rows;
+    let handle = free_handle(rows, used.rows as usize, value.len() as u16, draw);
+    escrow_more(b, escrow, values, source, recipient, handle, value)
+}
+
+// The value is the middle part of the heaps that the running place has at the offset.
+pub fn protect(
+    b: BoxRecord,
+    escrow: EscrowTable,
+    heaps: &[u8],
+    values: &mut [u8],
+    recipient: u64,
+    offset: u16,
+    size: u16,
+    draw: Draw,
+) -> EscrowAnswer
+    requires { ⌜ (b .running ≤ 16) × (length (now heaps) ≡ 4096) × EscrowFits (b .escrow) (escrow .rows) (now values) ⌝ }
+    ensures { λ r. ⌜ resultOf r (now (values .exit)) ≡ protectOn b (escrow .rows) (now (heaps .entry)) (now (values .entry)) recipient offset size draw ⌝ }
+{
+    if b.running == 16 {
+        return EscrowAnswer {
+            held: b,
+            escrow,
+            answer: refused(4),
+        };
+    }
+    if recipient == 0 {
+        return EscrowAnswer {
+            held: b,
+            escrow,
+            answer: refused(9),
+        };
+    }
+    if offset as usize + size as usize > 256 {
+        return EscrowAnswer {
+            held: b,
+            escrow,
+            answer: refused(11),
+        };
+    }
+    let place = b.running as usize;
+    let start = 256 * place + offset as usize;
+    let end = start + size as usize;
+    let source = b.identities[place];
+    protect_value(
+        b,
+        escrow,
+        values,
+        source,
+        recipient,
+        draw,
+        &heaps[start..end],
+    )
+}

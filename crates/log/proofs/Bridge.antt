@@ -1,0 +1,201 @@
+-- What attest and check do to the tables of a valid state is the laid-out step of that state. Assumes nothing.
+use Prim.Native.Nat.{ℕ, zero, suc, _+_, _*_, _≤_}
+use mathlib.Core.Path.{_≡_, refl, sym, ap, _∙_}
+use mathlib.Core.Bool.{false, not, _&&_}
+use mathlib.Core.List.{List, [], _∷_, _++_}
+use native.Mathlib.Omega.{arith}
+use lib.ListN.{length}
+use lib.Dec.{eqb}
+use borrow.Author.Tests.{ltb-false}
+use Rattle.fnv.specs.declared.Tag.{Tag}
+use Rattle.fnv.specs.Fnv.{tagOf}
+use Rattle.record.specs.Call.{Call, attest, check}
+use Rattle.ideal.specs.declared.BoxRecord.{BoxRecord}
+use Rattle.ideal.specs.declared.LogRow.{LogRow}
+use Rattle.ideal.specs.declared.Used.{Used}
+use Rattle.ideal.specs.State.{Logged, State, caller, part, ownPart, every}
+use Rattle.ideal.specs.Step.{paired, logged, full, withPair, withLog, first, idle, beyond, tests, refusal, effect, number, shown, refusedAnswer, refuse, accepted, settle, step}
+use Rattle.ideal.specs.Tables.{Tables, logTable, rowsFrom, flat, usedBy, boxRecord, tables, stateOf}
+use Rattle.ideal.specs.Soundness.{hasIdentity}
+use Rattle.ideal.specs.Box.{Result, laid}
+use Rattle.ideal.proofs.Bools.{by-cases, and-right, and-other, not-is}
+use Rattle.ideal.specs.Valid.{Valid}
+use Rattle.ideal.proofs.Kept.{own-size, busy}
+use Rattle.ideal.proofs.Table.{Stands, entries-back, log-lawful}
+use Rattle.ideal.proofs.Facts.{log-tests}
+use Rattle.ideal.proofs.Fit.{rows-fit}
+use Rattle.ideal.proofs.More.{row-added, value-added, counts-raised}
+use Rattle.ideal.proofs.Memory.{flat-part}
+use Rattle.state.specs.Answers.{settled, answered}
+use Rattle.state.proofs.Settled.{answerOf}
+use Rattle.log.specs.Narrow.{LogFits, Room, LogResult, logOf, fullBy, moreLog, attested, attestOn, checkOn}
+use Rattle.log.proofs.Search.{has-room}
+use Rattle.log.proofs.Pairs.{paired-logged}
+
+-- what attest and check require of the log, of a sound one
+pub log-fits : {rows : List LogRow} {values : List ℕ} {used : Used} → Stands logTable rows values used → LogFits used rows values
+log-fits {rows} {values} {used} s =
+    record { few = s .few; size = s .value-count; fit = rows-fit logTable rows values used s }
+
+-- the host's tables with the parts of the log replaced, and the whole answer
+abbrev pub onLog : Tables → LogResult → ℕ → Result
+onLog t r used =
+    record {
+      tables =
+          record {
+            box = r .held;
+            heaps = t .heaps;
+            shared = t .shared;
+            logRows = r .rows;
+            logValues = r .values;
+            escrowRows = t .escrowRows;
+            escrowValues = t .escrowValues;
+          };
+      answer = answerOf (r .answer) used [];
+    }
+
+-- one entry more
+added : (s : State) (e : Logged) (used : ℕ) → Room (tables s .box .log) (length (e .value))
+    → laid (record { state = withLog s (s .log ++ (e ∷ [])); answer = record { code = 0; number = e .key .tag .0; used = used; shown = [] } })
+    ≡ onLog (tables s) (moreLog (tables s .box) (tables s .logRows) (tables s .logValues) (e .key .identity) (e .key .tag) (e .value)) used
+unfolding laid withLog tables boxRecord moreLog
+added s e used room = λ j.
+    record {
+      tables =
+          record {
+            box =
+                record {
+                  taken = boxRecord s .taken;
+                  running = s .running;
+                  identities = s .identities;
+                  log = counts-raised (s .log) e j;
+                  escrow = boxRecord s .escrow;
+                };
+            heaps = flat (s .heaps);
+            shared = s .shared;
+            logRows = row-added log-lawful (s .log) e (room .row) j;
+            logValues = value-added (s .log) e (room .bytes) j;
+            escrowRows = tables s .escrowRows;
+            escrowValues = tables s .escrowValues;
+          };
+      answer = record { code = 0; number = e .key .tag .0; used = used; shown = [] };
+    }
+
+module _ (s : State) (k : Valid s) (o n used : ℕ) where
+  abbrev t : Tables
+  t = tables s
+
+  abbrev c : Call
+  c = attest o n
+
+  -- what an attest leaves, of a refusal and a value
+  abbrev leaves : ℕ → List ℕ → Result
+  leaves r v = onLog t (attested r (t .box) (t .logRows) (t .logValues) (caller s) (tagOf (caller s) v) v) used
+
+  refused : (m : ℕ) (v : List ℕ) → laid (settle (suc m) s c used) ≡ leaves (suc m) v
+  unfolding laid settle refuse refusedAnswer attested settled
+  refused m v = refl
+
+  used-log : logOf (t .box) (t .logRows) (t .logValues) ≡ s .log
+  unfolding tables boxRecord
+  used-log = entries-back log-lawful (s .log)
+
+  fullness : fullBy (t .box .log) n ≡ full (s .log) n
+  unfolding tables boxRecord fullBy full
+  fullness = refl
+
+  room : full (s .log) n ≡ false → Room (t .box .log) n
+  unfolding tables boxRecord full fullBy
+  room f = has-room (usedBy (s .log)) n (k .log .few) f
+
+  module _ (runs : idle s ≡ false) (fits : beyond 256 o n ≡ false) where
+    abbrev i : ℕ
+    i = caller s
+
+    abbrev v : List ℕ
+    v = ownPart s o n
+
+    within : o + n ≤ 256
+    unfolding beyond
+    within = ltb-false 256 (o + n) fits
+
+    own : part (t .heaps) (256 * t .box .running + o) n ≡ v
+    unfolding tables boxRecord ownPart
+    own =
+        let run = busy s k runs in
+        flat-part (s .heaps) (s .running) o n (λ p h. k .sizes p (omega (arith, k .heaps))) (omega (arith, k .heaps)) within
+
+    pairs : logged i (tagOf i v) v (s .log) ≡ paired i v (s .log)
+    pairs =
+        let tags = and-right (every hasIdentity (rowsFrom logTable 0 (s .log))) _ (sym (log-tests (s .log)) ∙ k .log-good) in
+        sym (paired-logged i v (s .log) tags)
+
+    attests : not (paired i v (s .log)) && full (s .log) n ≡ false → laid (settle 0 s c used) ≡ leaves 0 v
+    unfolding laid settle accepted effect number shown withPair withLog attested settled
+    attests h =
+        let size = own-size s o n k (busy s k runs) within in
+        by-cases (paired i v (s .log))
+        (λ e. rw (used-log, pairs, e))
+        (λ e.
+        let r = room (and-other (not (paired i v (s .log))) _ (not-is _ e) h) in
+        rw (used-log, pairs, e)
+        (added s (record { key = record { identity = i; tag = tagOf i v }; value = v }) used (rw size r)))
+
+  attest-laid : laid (step s c used) ≡ onLog t (attestOn (t .box) (t .logRows) (t .heaps) (t .logValues) o n) used
+  unfolding step refusal tests first idle attestOn tables boxRecord
+  attest-laid =
+      let said = part (t .heaps) (256 * t .box .running + o) n in
+      by-cases (idle s)
+      (λ e. rw e (refused 3 said))
+      (λ e.
+      by-cases (beyond 256 o n)
+      (λ f. rw (e, f) (refused 10 said))
+      (λ f.
+      rw (e, f, own e f, used-log, pairs e f, fullness)
+      (by-cases (not (paired (caller s) (ownPart s o n) (s .log)) && full (s .log) n)
+      (λ h. rw h (refused 12 (ownPart s o n)))
+      (λ h. rw h (attests e f h)))))
+
+pub attest-step : (t : Tables) → Valid (stateOf t) → tables (stateOf t) ≡ t → (o n used : ℕ)
+    → laid (step (stateOf t) (attest o n) used) ≡ onLog t (attestOn (t .box) (t .logRows) (t .heaps) (t .logValues) o n) used
+attest-step t k e o n used =
+    attest-laid (stateOf t) k o n used
+    ∙ ap (λ x. onLog x (attestOn (x .box) (x .logRows) (x .heaps) (x .logValues) o n) used) e
+
+check-laid : (s : State) (i : ℕ) (g : Tag) (v : List ℕ) (used : ℕ) → laid (step s (check i g v) used)
+    ≡ record {
+      tables = tables s;
+      answer = answerOf (checkOn (tables s .box) (tables s .logRows) (tables s .logValues) i g v) used [];
+    }
+unfolding laid step refusal tests first settle refuse refusedAnswer accepted effect number shown checkOn answered tables boxRecord
+check-laid s i g v used = by-cases (eqb i 0) (λ e. rw e) (λ e. rw (e, entries-back log-lawful (s .log)))
+
+pub check-step : (t : Tables) → Valid (stateOf t) → tables (stateOf t) ≡ t → (i : ℕ) (g : Tag) (v : List ℕ) (used : ℕ)
+    → laid (step (stateOf t) (check i g v) used)
+    ≡ record { tables = t; answer = answerOf (checkOn (t .box) (t .logRows) (t .logValues) i g v) used [] }
+check-step t k e i g v used =
+    check-laid (stateOf t) i g v used
+    ∙ ap (λ x. record { tables = x; answer = answerOf (checkOn (x .box) (x .logRows) (x .logValues) i g v) used [] }) e
+
+-- ---- neither shows bytes
+
+attested-shows : (r : ℕ) (b : BoxRecord) (rows : List LogRow) (values : List ℕ) (i : ℕ) (g : Tag) (v : List ℕ)
+    → attested r b rows values i g v .answer .shown ≡ 0
+unfolding attested settled moreLog
+attested-shows zero b rows values i g v = by-cases (logged i g v (logOf b rows values)) (λ e. rw e) (λ e. rw e)
+attested-shows (suc r) b rows values i g v = refl
+
+pub attest-shows : (b : BoxRecord) (rows : List LogRow) (heaps values : List ℕ) (o n : ℕ)
+    → attestOn b rows heaps values o n .answer .shown ≡ 0
+unfolding attestOn
+attest-shows b rows heaps values o n = attested-shows _ b rows values _ _ _
+
+answered-shows : (r n : ℕ) → answered r n .shown ≡ 0
+unfolding answered
+answered-shows zero n = refl
+answered-shows (suc r) n = refl
+
+pub check-shows : (b : BoxRecord) (rows : List LogRow) (values : List ℕ) (i : ℕ) (g : Tag) (v : List ℕ)
+    → checkOn b rows values i g v .shown ≡ 0
+unfolding checkOn
+check-shows b rows values i g v = answered-shows _ _

@@ -1,0 +1,55 @@
+use borrow.Author.Needs.{needs}
+use Rattle.log.specs.Narrow.{moreLog}
+use Rattle.log.proofs.log_more.Statement.{statement}
+use Rattle.log.proofs.log_more.Tie as tie
+
+cast-size : tie.Need-cast-size
+cast-size c = search needs
+
+cast-put : tie.Need-cast-put
+cast-put c = search needs
+
+put-requires : tie.Need-put-requires
+put-requires c κs = search needs
+
+cast-i : tie.Need-cast-i
+cast-i c = search needs
+
+mul-row : tie.Need-mul-row
+mul-row c = search needs
+
+element-set-from-row : tie.Need-element-set-from-row
+element-set-from-row c = search needs
+
+add-t20 : tie.Need-add-t20
+add-t20 c = search needs
+
+add-t21 : tie.Need-add-t21
+add-t21 c = search needs
+
+accepted-requires : tie.Need-accepted-requires
+accepted-requires c κs = search needs
+
+same-length : tie.Need-same-length
+same-length c = search needs
+
+returns : tie.Need-returns
+unfolding moreLog
+returns c =
+    rw (c .before .before .before .before .before .before .put .ensures, c .accepted .ensures)
+
+pub log-more-spec : {M : Type 1} → statement M
+log-more-spec =
+    tie.close
+    (tie.spec
+    cast-size
+    cast-put
+    put-requires
+    cast-i
+    mul-row
+    element-set-from-row
+    add-t20
+    add-t21
+    accepted-requires
+    same-length
+    returns)

@@ -1,0 +1,105 @@
+-- What attest and check leave and answer, on the parts of the box that they are given.
+use Prim.Native.Nat.{ℕ, _+_, _*_, _≤_, _<_}
+use mathlib.Core.Path.{_≡_}
+use mathlib.Core.Bool.{Bool, not, _&&_, _||_, cond}
+use mathlib.Core.List.{List}
+use lib.ListN.{length, getD, take, set}
+use lib.Seq.{sets}
+use lib.Dec.{eqb, ltb}
+use Rattle.fnv.specs.declared.Tag.{Tag}
+use Rattle.fnv.specs.Fnv.{tagOf}
+use Rattle.ideal.specs.declared.BoxRecord.{BoxRecord}
+use Rattle.ideal.specs.declared.LogRow.{LogRow}
+use Rattle.ideal.specs.declared.Used.{Used}
+use Rattle.ideal.specs.State.{Logged, part}
+use Rattle.ideal.specs.Step.{logged, accept, _then_, first, beyond}
+use Rattle.ideal.specs.Tables.{logTable, entriesOf}
+use Rattle.ideal.specs.Fit.{RowsFit}
+use Rattle.state.specs.declared.Answer.{Answer}
+use Rattle.state.specs.declared.LogAnswer.{LogAnswer}
+use Rattle.state.specs.Answers.{refusedWith, acceptedWith, settled, answered}
+
+-- ---- what callers show
+
+-- the used rows are rows of the table, and lie within its value bytes
+pub record LogFits (used : Used) (rows : List LogRow) (values : List ℕ) : Type 0 where
+  pub few : used .rows ≤ 64
+  pub size : length values ≡ 4096
+  pub fit : RowsFit logTable rows (used .rows) (length values)
+
+-- there is a row and n bytes that are not used
+pub record Room (used : Used) (n : ℕ) : Type 0 where
+  pub row : used .rows < 64
+  pub bytes : used .bytes + n ≤ 4096
+
+-- ---- what is left and answered
+
+pub record LogResult : Type 0 where
+  pub held : BoxRecord
+  pub rows : List LogRow
+  pub values : List ℕ
+  pub answer : Answer
+
+-- an answer with the value bytes at exit
+abbrev pub resultOf : LogAnswer → List ℕ → LogResult
+resultOf r values = record { held = r .held; rows = r .log .rows; values = values; answer = r .answer }
+
+-- the log that the used rows stand for
+abbrev pub logOf : BoxRecord → List LogRow → List ℕ → List Logged
+logOf b rows values = entriesOf logTable values (take (b .log .rows) rows)
+
+-- the box's `full`, by the counts
+unfoldable pub fullBy : Used → ℕ → Bool
+fullBy used n = eqb (used .rows) 64 || ltb 4096 (used .bytes + n)
+
+-- ---- attest
+
+abbrev pub keptLog : BoxRecord → List LogRow → List ℕ → Answer → LogResult
+keptLog b rows values answer = record { held = b; rows = rows; values = values; answer = answer }
+
+-- one row and its value more
+unfoldable pub moreLog : BoxRecord → List LogRow → List ℕ → ℕ → Tag → List ℕ → LogResult
+moreLog b rows values i g v =
+    let used = b .log in
+    record {
+      held =
+          record {
+            taken = b .taken;
+            running = b .running;
+            identities = b .identities;
+            log = record { rows = used .rows + 1; bytes = used .bytes + length v };
+            escrow = b .escrow;
+          };
+      rows = set rows (used .rows) (logTable .row (record { identity = i; tag = g }) (used .bytes) (length v));
+      values = sets values (used .bytes) v;
+      answer = acceptedWith (g .0);
+    }
+
+-- a value attested with its tag, unless it is refused: a row more where there is none yet
+unfoldable pub attested : (refusal : ℕ) → BoxRecord → List LogRow → List ℕ → ℕ → Tag → List ℕ → LogResult
+attested refusal b rows values i g v =
+    settled refusal (keptLog b rows values (refusedWith refusal))
+    (cond (logged i g v (logOf b rows values)) (keptLog b rows values (acceptedWith (g .0))) (moreLog b rows values i g v))
+
+-- the last of attest's tests alone
+unfoldable pub attestValue : BoxRecord → List LogRow → List ℕ → ℕ → Tag → List ℕ → LogResult
+attestValue b rows values i g v =
+    let refusal = first ((13, not (logged i g v (logOf b rows values)) && fullBy (b .log) (length v)) then accept) in
+    attested refusal b rows values i g v
+
+unfoldable pub attestOn : BoxRecord → (rows : List LogRow) → (heaps values : List ℕ) → (offset size : ℕ) → LogResult
+attestOn b rows heaps values o n =
+    let i = getD (b .identities) (b .running) 0 in
+    let v = part heaps (256 * b .running + o) n in
+    let g = tagOf i v in
+    let refusal =
+    first
+    ((4, eqb (b .running) 16) then (11, beyond 256 o n)
+    then (13, not (logged i g v (logOf b rows values)) && fullBy (b .log) n) then accept) in
+    attested refusal b rows values i g v
+
+-- ---- check
+
+unfoldable pub checkOn : BoxRecord → List LogRow → List ℕ → ℕ → Tag → List ℕ → Answer
+checkOn b rows values i g v =
+    answered (first ((9, eqb i 0) then accept)) (cond (logged i g v (logOf b rows values)) 1 0)

@@ -1,0 +1,196 @@
+// The log: the search for a row, attest and check.
+ghost use mathlib.Core.Path.{_≡_};
+ghost use Prim.Native.Nat.{_+_, _≤_};
+ghost use lib.ListN.{length, take};
+ghost use Rattle.ideal.specs.Step.{isLogged, logged};
+ghost use Rattle.ideal.specs.Tables.{logTable, entryOf, entriesOf};
+ghost use Rattle.ideal.specs.Fit.{RowsFit};
+ghost use Rattle.log.specs.Narrow.{LogFits, Room, resultOf, fullBy, moreLog, attestValue, attestOn, checkOn};
+use fnv::Tag;
+use fnv::tag_of;
+use ideal::BoxRecord;
+use ideal::LogRow;
+use ideal::Used;
+use state::Answer;
+use state::LogAnswer;
+use state::LogTable;
+use state::accepted;
+use state::put;
+use state::refused;
+use state::same;
+
+// Whether a row is this identity, tag and value. The bytes are compared last, where the tags are equal.
+pub fn row_is(row: LogRow, values: &[u8], identity: u64, tag: Tag, value: &[u8]) -> bool
+    requires { ⌜ row .first + row .length ≤ length (now values) ⌝ }
+    ensures { λ r. ⌜ r ≡ isLogged identity tag (now (value .entry)) (entryOf logTable (now (values .entry)) row) ⌝ }
+{
+    if row.identity != identity {
+        return false;
+    }
+    if row.tag.0 != tag.0 {
+        return false;
+    }
+    let start = row.first as usize;
+    let end = start + row.length as usize;
+    same(&values[start..end], value)
+}
+
+// Whether one of the first n rows is this identity, tag and value.
+pub fn in_log(
+    rows: [LogRow; 64],
+    n: usize,
+    values: &[u8],
+    identity: u64,
+    tag: Tag,
+    value: &[u8],
+) -> bool
+    requires { ⌜ (n ≤ 64) × RowsFit logTable rows n (length (now values)) ⌝ }
+    ensures { λ r. ⌜ r ≡ logged identity tag (now (value .entry)) (entriesOf logTable (now (values .entry)) (take n rows)) ⌝ }
+{
+    let mut i: usize = 0;
+    while i < n {
+        let row = rows[i];
+        if row_is(row, values, identity, tag, value) {
+            return true;
+        }
+        i += 1;
+    }
+    false
+}
+
+// Whether all rows are used, or size bytes more are too many.
+fn is_full(used: Used, size: usize) -> bool
+    requires { ⌜ size ≤ 256 ⌝ }
+    ensures { λ r. ⌜ r ≡ fullBy used size ⌝ }
+{
+    if used.rows == 64 {
+        return true;
+    }
+    used.bytes as usize + size > 4096
+}
+
+// The log with one row and its value more.
+fn log_more(
+    b: BoxRecord,
+    log: LogTable,
+    values: &mut [u8],
+    identity: u64,
+    tag: Tag,
+    value: &[u8],
+) -> LogAnswer
+    requires { ⌜ (length (now values) ≡ 4096) × Room (b .log) (length (now value)) ⌝ }
+    ensures { λ r. ⌜ resultOf r (now (values .exit)) ≡ moreLog b (log .rows) (now (values .entry)) identity tag (now (value .entry)) ⌝ }
+{
+    let used = b.log;
+    let size = value.len() as u16;
+    put(value, values, used.bytes as usize);
+    let row = LogRow {
+        identity,
+        tag,
+        first: used.bytes,
+        length: size,
+    };
+    let i = used.rows as usize;
+    let mut more = log;
+    more.rows[i] = row;
+    let raised = Used {
+        rows: used.rows + 1,
+        bytes: used.bytes + size,
+    };
+    let mut next = b;
+    next.log = raised;
+    LogAnswer {
+        held: next,
+        log: more,
+        answer: accepted(tag.0),
+    }
+}
+
+// A value attested with its tag: a pair already logged adds no row, even when the log is full.
+fn attest_value(
+    b: BoxRecord,
+    log: LogTable,
+    values: &mut [u8],
+    identity: u64,
+    tag: Tag,
+    value: &[u8],
+) -> LogAnswer
+    requires { ⌜ LogFits (b .log) (log .rows) (now values) × (length (now value) ≤ 256) ⌝ }
+    ensures { λ r. ⌜ resultOf r (now (values .exit)) ≡ attestValue b (log .rows) (now (values .entry)) identity tag (now (value .entry)) ⌝ }
+{
+    let used = b.log;
+    let rows = log.rows;
+    if in_log(rows, used.rows as usize, values, identity, tag, value) {
+        return LogAnswer {
+            held: b,
+            log,
+            answer: accepted(tag.0),
+        };
+    }
+    if is_full(used, value.len()) {
+        return LogAnswer {
+            held: b,
+            log,
+            answer: refused(13),
+        };
+    }
+    log_more(b, log, values, identity, tag, value)
+}
+
+// Attests a part of the running heap: that middle part of the lent heaps goes to the tag and to the log.
+pub fn attest(
+    b: BoxRecord,
+    log: LogTable,
+    heaps: &[u8],
+    values: &mut [u8],
+    offset: u16,
+    size: u16,
+) -> LogAnswer
+    requires { ⌜ (b .running ≤ 16) × (length (now heaps) ≡ 4096) × LogFits (b .log) (log .rows) (now values) ⌝ }
+    ensures { λ r. ⌜ resultOf r (now (values .exit)) ≡ attestOn b (log .rows) (now (heaps .entry)) (now (values .entry)) offset size ⌝ }
+{
+    if b.running == 16 {
+        return LogAnswer {
+            held: b,
+            log,
+            answer: refused(4),
+        };
+    }
+    if offset as usize + size as usize > 256 {
+        return LogAnswer {
+            held: b,
+            log,
+            answer: refused(11),
+        };
+    }
+    let place = b.running as usize;
+    let heap = 256 * place;
+    let start = heap + offset as usize;
+    let end = start + size as usize;
+    let identity = b.identities[place];
+    let tag = tag_of(identity, &heaps[start..end]);
+    attest_value(b, log, values, identity, tag, &heaps[start..end])
+}
+
+// 1 if identity, tag and value are a log row, else 0. No row has more than 256 bytes, so no longer value is found.
+pub fn check_pair(
+    b: BoxRecord,
+    log: LogTable,
+    values: &[u8],
+    identity: u64,
+    tag: Tag,
+    value: &[u8],
+) -> Answer
+    requires { ⌜ LogFits (b .log) (log .rows) (now values) ⌝ }
+    ensures { λ r. ⌜ r ≡ checkOn b (log .rows) (now (values .entry)) identity tag (now (value .entry)) ⌝ }
+{
+    if identity == 0 {
+        return refused(9);
+    }
+    let used = b.log;
+    let rows = log.rows;
+    if in_log(rows, used.rows as usize, values, identity, tag, value) {
+        return accepted(1);
+    }
+    accepted(0)
+}

@@ -1,0 +1,43 @@
+// A place runs from its start until a yield or an exit.
+ghost use mathlib.Core.Path.{_≡_};
+ghost use Rattle.services.specs.Narrow.{startOn, yieldOn};
+use crate::refuse;
+use ideal::BoxRecord;
+use state::BoxAnswer;
+use state::accepted;
+
+pub fn start(b: BoxRecord, place: u8) -> BoxAnswer
+    ensures { λ r. ⌜ r ≡ startOn b place ⌝ }
+{
+    if b.running != 16 {
+        return refuse(b, 5);
+    }
+    if place > 15 {
+        return refuse(b, 6);
+    }
+    let p = place as usize;
+    if b.identities[p] == 0 {
+        return refuse(b, 7);
+    }
+    let mut next = b;
+    next.running = place;
+    BoxAnswer {
+        held: next,
+        answer: accepted(0),
+    }
+}
+
+// The heap is left as it is.
+pub fn yield_running(b: BoxRecord) -> BoxAnswer
+    ensures { λ r. ⌜ r ≡ yieldOn b ⌝ }
+{
+    if b.running == 16 {
+        return refuse(b, 4);
+    }
+    let mut next = b;
+    next.running = 16;
+    BoxAnswer {
+        held: next,
+        answer: accepted(0),
+    }
+}

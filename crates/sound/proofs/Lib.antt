@@ -1,0 +1,4 @@
+pub mod Rows
+pub mod Differ
+pub mod MapAndHeaps
+pub mod Whole

@@ -1,0 +1,71 @@
+// The soundness test.
+ghost use mathlib.Core.Path.{_≡_};
+ghost use mathlib.Core.List.{List};
+ghost use Prim.Native.Nat.{ℕ};
+ghost use lib.ListN.{length};
+ghost use Rattle.ideal.specs.declared.BoxRecord.{BoxRecord as Box};
+ghost use Rattle.state.specs.declared.LogTable.{LogTable as Log};
+ghost use Rattle.state.specs.declared.EscrowTable.{EscrowTable as Escrow};
+ghost use Rattle.ideal.specs.Soundness.{sizesRight, sound};
+ghost use Rattle.sound.specs.Parts.{tablesOf, Counted, Lent};
+
+mod escrow_rows;
+mod log_rows;
+mod places;
+
+use escrow_rows::escrow_sound;
+use ideal::BoxRecord;
+use log_rows::log_sound;
+use places::places_sound;
+use state::EscrowTable;
+use state::LogTable;
+
+// Whether the lent buffers are of their sizes, whatever else the tables hold.
+pub fn sizes_right(
+    heaps: &[u8],
+    shared: &[u8],
+    log_values: &[u8],
+    escrow_values: &[u8],
+    output: &[u8],
+) -> bool
+    ensures { λ r. ⌜ ((b : Box) (log : Log) (escrow : Escrow) → Counted b log escrow → r ≡ sizesRight (tablesOf b log escrow (now (heaps .entry)) (now (shared .entry)) (now («log_values» .entry)) (now («escrow_values» .entry))) (length (now (output .entry)))) ⌝ }
+{
+    if heaps.len() != 4096 {
+        return false;
+    }
+    if shared.len() != 1024 {
+        return false;
+    }
+    if log_values.len() != 4096 {
+        return false;
+    }
+    if escrow_values.len() != 4096 {
+        return false;
+    }
+    output.len() == 1024
+}
+
+// Whether the box is sound, whatever the shared memory holds. Called once the sizes are right.
+pub fn box_sound(
+    b: BoxRecord,
+    log: LogTable,
+    escrow: EscrowTable,
+    heaps: &[u8],
+    log_values: &[u8],
+    escrow_values: &[u8],
+) -> bool
+    requires { ⌜ Lent (now heaps) (now «log_values») (now «escrow_values») ⌝ }
+    ensures { λ r. ⌜ ((shared : List ℕ) → r ≡ sound (tablesOf b log escrow (now (heaps .entry)) shared (now («log_values» .entry)) (now («escrow_values» .entry)))) ⌝ }
+{
+    if !places_sound(b, heaps) {
+        return false;
+    }
+    let log_rows = log.rows;
+    let log_used = b.log;
+    if !log_sound(log_rows, log_values, log_used) {
+        return false;
+    }
+    let escrow_rows = escrow.rows;
+    let escrow_used = b.escrow;
+    escrow_sound(escrow_rows, escrow_values, escrow_used)
+}

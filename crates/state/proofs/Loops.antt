@@ -1,0 +1,60 @@
+-- Loops over bytes: what one turn adds. Assumes nothing.
+use Prim.Native.Nat.{ℕ, zero, suc, _+_, _≤_, _<_}
+use mathlib.Core.Path.{_≡_, refl, ap}
+use mathlib.Core.Bool.{false, _&&_}
+use mathlib.Core.List.{List, [], _∷_, _++_, append-nil, append-assoc}
+use native.Mathlib.Omega.{arith}
+use native.Mathlib.Nat.{zero-add}
+use native.Mathlib.Numerals.{add-one}
+use lib.Bits.{bitOr, or-add-and, or-zero-l, and-le-r}
+use lib.Dec.{eqb}
+use lib.ListN.{length, getD, take, drop, set, drop-of-length-le}
+use lib.Seq.{drop-cons, paste-suc, sets, sets-eq, drop-drop}
+use borrow.Author.Tests.{ne-eqb}
+use Rattle.ideal.specs.State.{every, sameBytes}
+use Rattle.ideal.specs.Soundness.{allZero}
+use Rattle.ideal.proofs.Bools.{and-false}
+
+-- ---- bytes joined by `|`
+
+pub joined : (a b : ℕ) → eqb (bitOr a b) 0 ≡ eqb a 0 && eqb b 0
+joined zero b = ap (λ (n : ℕ). eqb n 0) (or-zero-l b)
+joined (suc a) b =
+    rw (ne-eqb (suc a) 0 (λ e. omega arith))
+    (ne-eqb (bitOr (suc a) b) 0 (λ e. omega (arith, or-add-and (suc a) b, and-le-r (suc a) b, e)))
+
+pub zero-step : (s : List ℕ) (i : ℕ) → i < length s → allZero (drop i s) ≡ eqb (getD s i 0) 0 && allZero (drop (i + 1) s)
+unfolding allZero every
+zero-step s i h = rw (drop-cons s i 0 h, add-one i)
+
+-- ---- bytes compared one by one
+
+pub same-step : (a b : List ℕ) (i : ℕ) → i < length a → i < length b
+    → sameBytes (drop i a) (drop i b) ≡ eqb (getD a i 0) (getD b i 0) && sameBytes (drop (i + 1) a) (drop (i + 1) b)
+unfolding sameBytes
+same-step a b i p q = rw (drop-cons a i 0 p, drop-cons b i 0 q, add-one i)
+
+pub lengths-differ : (a b : List ℕ) → (length a ≡ length b → ⊥) → sameBytes a b ≡ false
+unfolding sameBytes
+lengths-differ [] [] h = absurd (h refl)
+lengths-differ [] (y ∷ b) h = refl
+lengths-differ (x ∷ a) [] h = refl
+lengths-differ (x ∷ a) (y ∷ b) h = and-false (eqb x y) _ (lengths-differ a b (λ e. h (ap suc e)))
+
+-- ---- bytes copied one by one over the front of d
+
+pub copy-more : (s d : List ℕ) (i : ℕ) → i < length s → i < length d
+    → set (take i s ++ drop i d) i (getD s i 0) ≡ take (i + 1) s ++ drop (i + 1) d
+copy-more s d i h l =
+    let m : 0 + i < length d = omega arith in
+    rw (add-one i) (rw (zero-add i, zero-add (suc i)) at (paste-suc d 0 s i 0 m h))
+
+-- ---- a part of l, lent and back
+
+-- with v in its place
+pub part-replaced : (l v : List ℕ) (a n : ℕ) → length v ≡ n → a + n ≤ length l → take a l ++ (v ++ drop n (drop a l)) ≡ sets l a v
+part-replaced l v a n e h = let f : a + length v ≤ length l = omega arith in rw (← e, drop-drop (length v) a l, sets-eq v l a f, append-assoc)
+
+-- a copy over the whole part leaves nothing of it
+pub copied-whole : (v p : List ℕ) → length p ≤ length v → v ++ drop (length v) p ≡ v
+copied-whole v p h = rw (drop-of-length-le p h, append-nil v)

@@ -1,0 +1,19 @@
+-- What a call on a part of the box leaves and answers: the same chain of tests as the box's own.
+use Prim.Native.Nat.{ℕ, zero, suc}
+use Rattle.state.specs.declared.Answer.{Answer}
+
+abbrev pub refusedWith : ℕ → Answer
+refusedWith code = record { code = code; number = 0; shown = 0 }
+
+abbrev pub acceptedWith : ℕ → Answer
+acceptedWith number = record { code = 0; number = number; shown = 0 }
+
+-- refusal 0 is none; a refusal leaves what there was
+unfoldable pub settled : {A : Type 0} → ℕ → A → A → A
+settled zero old new = new
+settled (suc n) old new = old
+
+-- the answer of a call that shows nothing
+unfoldable pub answered : ℕ → ℕ → Answer
+answered zero number = acceptedWith number
+answered (suc n) number = refusedWith (suc n)

@@ -1,0 +1,68 @@
+// Loops over lent bytes.
+ghost use mathlib.Core.Path.{_≡_};
+ghost use Prim.Native.Nat.{_+_, _≤_};
+ghost use lib.ListN.{length, replicate, drop};
+ghost use lib.Seq.{sets};
+ghost use mathlib.Core.List.{_++_};
+ghost use Rattle.ideal.specs.State.{sameBytes};
+ghost use Rattle.ideal.specs.Soundness.{allZero};
+
+// Whether every byte is 0: joined by `|`, with no way out of the loop, so that it is compiled to vector code.
+pub fn all_zero(s: &[u8]) -> bool
+    ensures { λ r. ⌜ r ≡ allZero (now (s .entry)) ⌝ }
+{
+    let mut all: u8 = 0;
+    let mut i = 0;
+    while i < s.len() {
+        all = all | s[i];
+        i += 1;
+    }
+    all == 0
+}
+
+pub fn same(a: &[u8], b: &[u8]) -> bool
+    ensures { λ r. ⌜ r ≡ sameBytes (now (a .entry)) (now (b .entry)) ⌝ }
+{
+    if a.len() != b.len() {
+        return false;
+    }
+    let mut i = 0;
+    while i < a.len() {
+        if a[i] != b[i] {
+            return false;
+        }
+        i += 1;
+    }
+    true
+}
+
+// The bytes of src over the front of dst.
+pub fn copy(src: &[u8], dst: &mut [u8])
+    requires { ⌜ length (now src) ≤ length (now dst) ⌝ }
+    ensures { λ _. ⌜ now (dst .exit) ≡ now (src .entry) ++ drop (length (now (src .entry))) (now (dst .entry)) ⌝ }
+{
+    let mut i = 0;
+    while i < src.len() {
+        dst[i] = src[i];
+        i += 1;
+    }
+}
+
+// The bytes of src into dst from start on.
+pub fn put(src: &[u8], dst: &mut [u8], start: usize)
+    requires { ⌜ start + length (now src) ≤ length (now dst) ⌝ }
+    ensures { λ _. ⌜ now (dst .exit) ≡ sets (now (dst .entry)) start (now (src .entry)) ⌝ }
+{
+    let end = start + src.len();
+    copy(src, &mut dst[start..end]);
+}
+
+pub fn clear(dst: &mut [u8])
+    ensures { λ _. ⌜ now (dst .exit) ≡ replicate (length (now (dst .entry))) 0 ⌝ }
+{
+    let mut i = 0;
+    while i < dst.len() {
+        dst[i] = 0;
+        i += 1;
+    }
+}

@@ -1,0 +1,69 @@
+// What goes in and comes back by value, and the loops over lent bytes.
+mod bytes;
+mod fresh;
+
+pub use bytes::all_zero;
+pub use bytes::clear;
+pub use bytes::copy;
+pub use bytes::put;
+pub use bytes::same;
+pub use fresh::fresh_escrow;
+pub use fresh::fresh_log;
+pub use fresh::fresh_record;
+ghost use mathlib.Core.Path.{_≡_};
+ghost use Rattle.state.specs.Answers.{refusedWith, acceptedWith};
+use ideal::BoxRecord;
+use ideal::EscrowRow;
+use ideal::LogRow;
+
+pub struct LogTable {
+    pub rows: [LogRow; 64],
+}
+
+pub struct EscrowTable {
+    pub rows: [EscrowRow; 64],
+}
+
+// An answer but for the bytes used: shown is how many bytes stand at the front of the output buffer.
+pub struct Answer {
+    pub code: u8,
+    pub number: u64,
+    pub shown: u16,
+}
+
+pub struct BoxAnswer {
+    pub held: BoxRecord,
+    pub answer: Answer,
+}
+
+pub struct LogAnswer {
+    pub held: BoxRecord,
+    pub log: LogTable,
+    pub answer: Answer,
+}
+
+pub struct EscrowAnswer {
+    pub held: BoxRecord,
+    pub escrow: EscrowTable,
+    pub answer: Answer,
+}
+
+pub fn refused(code: u8) -> Answer
+    ensures { λ r. ⌜ r ≡ refusedWith code ⌝ }
+{
+    Answer {
+        code,
+        number: 0,
+        shown: 0,
+    }
+}
+
+pub fn accepted(number: u64) -> Answer
+    ensures { λ r. ⌜ r ≡ acceptedWith number ⌝ }
+{
+    Answer {
+        code: 0,
+        number,
+        shown: 0,
+    }
+}
