@@ -27,7 +27,9 @@ pub fn row_is(row: LogRow, values: &[u8], identity: u64, tag: Tag, value: &[u8])
     if row.identity != identity {
         return false;
     }
-    if row.tag.0 != tag.0 {
+    let found = row.tag.0;
+    let sought = tag.0;
+    if found != sought {
         return false;
     }
     let start = row.first as usize;

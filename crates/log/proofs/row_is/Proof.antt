@@ -11,7 +11,7 @@ returns c = simp (ne-eqb _ _ (c .if1 .taken))
 
 returns-2 : tie.Need-returns-2
 unfolding isLogged
-returns-2 c = simp (eq-eqb _ _ (c .before .before .before .if1 .left), ne-eqb _ _ (c .if2 .taken))
+returns-2 c = simp (eq-eqb _ _ (c .before .if1 .left), ne-eqb _ _ (c .if2 .taken))
 
 cast-start : tie.Need-cast-start
 cast-start c = search needs
@@ -37,11 +37,8 @@ same-requires c κs = search needs
 returns-3 : tie.Need-returns-3
 unfolding isLogged
 returns-3 c =
-    let r = c .before .before .before .before .before .before .before .before .before .before .before .args .row in
-    simp (
-      eq-eqb _ _ (c .before .before .before .before .before .before .before .if1 .left),
-      eq-eqb _ _ (c .before .before .before .before .if2 .left),
-    )
+    let r = c .before .before .before .before .before .before .before .before .before .args .row in
+    simp (eq-eqb _ _ (c .before .before .before .before .before .if1 .left), eq-eqb _ _ (c .before .before .before .before .if2 .left))
     (rw (add-sub-cancel-left (r .first) (r .length)) at (c .same .ensures))
 
 pub row-is-spec : {M : Type 1} → statement M
