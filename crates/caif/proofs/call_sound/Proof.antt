@@ -1,0 +1,105 @@
+use Rattle.caif.proofs.Whole.{whole-read, refused-read}
+use Rattle.ideal.specs.Step.{onReading}
+use Rattle.record.specs.Meaning.{Within, readingIn}
+use Rattle.record.specs.Read.{cut, unknown, wrongMap}
+use mathlib.Core.Path.{sym, _∙_}
+use borrow.Author.Needs.{needs}
+use Rattle.caif.proofs.call_sound.Statement.{statement}
+use Rattle.caif.proofs.call_sound.Tie as tie
+
+read-call-requires : tie.Need-read-call-requires
+read-call-requires c κs = search needs
+
+enum-known-call : tie.Need-enum-known-call
+enum-known-call c = search needs
+
+carry-out-requires : tie.Need-carry-out-requires
+unfolding Within
+carry-out-requires c κs = (
+  c .before .before .before .before .before .before .before .before .before .before .before .before .before .before .before .pre,
+  (rw (c .before .before .before .before .before .before .call .given .1) at (c .before .before .before .before .before .before .before .before .read-call .ensures .1)) .0,
+)
+
+enum-told : tie.Need-enum-told
+enum-told c = search needs
+
+reply-refusal-requires : tie.Need-reply-refusal-requires
+reply-refusal-requires c κs = search needs
+
+enum-told-2 : tie.Need-enum-told-2
+enum-told-2 c = search needs
+
+reply-refusal-requires-2 : tie.Need-reply-refusal-requires-2
+reply-refusal-requires-2 c κs = search needs
+
+enum-told-3 : tie.Need-enum-told-3
+enum-told-3 c = search needs
+
+reply-refusal-requires-3 : tie.Need-reply-refusal-requires-3
+reply-refusal-requires-3 c κs = search needs
+
+same-length : tie.Need-same-length
+same-length c = search needs
+
+same-length-2 : tie.Need-same-length-2
+same-length-2 c = search needs
+
+same-length-3 : tie.Need-same-length-3
+same-length-3 c = search needs
+
+same-length-4 : tie.Need-same-length-4
+same-length-4 c = search needs
+
+same-length-5 : tie.Need-same-length-5
+same-length-5 c = search needs
+
+returns : tie.Need-returns
+returns c =
+    c .before .before .before .before .before .before .before .before .before .before .carry-out .ensures
+    ∙ whole-read _ _ _ _
+    (c .before .before .before .before .before .before .before .before .before .before .before .before .before .before .before .before .before .before .before .read-call .ensures .0) _ _
+    (c .before .before .before .before .before .before .before .before .before .before .before .before .before .before .before .before .before .call .given .1)
+
+returns-2 : tie.Need-returns-2
+unfolding readingIn cut
+returns-2 c =
+    rw (c .reply-refusal .ensures)
+    (refused-read (c .before .before .before .before .before .before .before .before .before .before .pre) _ _ 1 0
+    (rw (c .before .enum-told .given .1) at (sym (c .before .before .before .read-call .ensures .0))))
+
+returns-3 : tie.Need-returns-3
+unfolding readingIn unknown
+returns-3 c =
+    rw (c .reply-refusal2 .ensures)
+    (refused-read (c .before .before .before .before .before .before .before .before .before .before .pre) _ _ 2 0
+    (rw (c .before .enum-told2 .given .1) at (sym (c .before .before .before .read-call .ensures .0))))
+
+returns-4 : tie.Need-returns-4
+unfolding readingIn wrongMap
+returns-4 c =
+    rw (c .reply-refusal3 .ensures)
+    (refused-read (c .before .before .before .before .before .before .before .before .before .before .pre) _ _ 3 0
+    (rw (c .before .enum-told3 .given .1) at (sym (c .before .before .before .read-call .ensures .0))))
+
+pub call-sound-spec : {M : Type 1} → statement M
+call-sound-spec =
+    tie.close
+    (tie.spec
+    read-call-requires
+    enum-known-call
+    carry-out-requires
+    enum-told
+    reply-refusal-requires
+    enum-told-2
+    reply-refusal-requires-2
+    enum-told-3
+    reply-refusal-requires-3
+    same-length
+    same-length-2
+    same-length-3
+    same-length-4
+    same-length-5
+    returns
+    returns-2
+    returns-3
+    returns-4)

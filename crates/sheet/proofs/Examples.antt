@@ -1,0 +1,55 @@
+-- The example: computed on the state, and carried to the tables by law.
+use Prim.Native.Nat.{ℕ, zero, suc}
+use mathlib.Core.Path.{_≡_, refl}
+use mathlib.Core.Bool.{cond}
+use mathlib.Core.List.{List, [], _∷_, _++_}
+use lib.ListN.{length, drop}
+use Rattle.record.specs.Layout.{stands, kinds, among, kindOf}
+use Rattle.record.specs.Read.{fromLittle, field, contents, bytesField, fields, readFields, readKind, afterMap, read}
+use Rattle.ideal.specs.State.{State, fresh, any, bytesUsed}
+use Rattle.ideal.specs.Step.{full, hasHandle, handleOf, freeFrom, freeHandle, first, idle, vacant, beyond, tests, refusal, withHeap, withRunning, withIdentity, withEscrow, written, protected, effect, services, number, shown, refusedAnswer, refuse, accepted, settle, step, onReading, stepOn}
+use Rattle.ideal.specs.Tables.{tables}
+use Rattle.ideal.specs.Box.{laid}
+use Rattle.ideal.specs.Exam.{hex}
+use Rattle.ideal.specs.Valid.{Valid}
+use Rattle.ideal.proofs.Kept.{valid-on}
+use Rattle.ideal.proofs.Laid.{stepElement, valid-fresh, fresh-tables, call-is}
+use Rattle.sheet.specs.Sheet.{bytesOf, digitOf, decimalIn, decimal, shownText, spaced, line, header, tooLong, lastCode, stops, called, linesFrom, sheet}
+use Rattle.sheet.specs.Examples.{exampleScript, exampleSheet, Example, TooLongLine}
+
+-- the lines of a script on a state
+unfoldable linesOn : ℕ → State → List ℕ → List ℕ
+linesOn zero s rest = []
+linesOn (suc n) s [] = []
+linesOn (suc n) s (b ∷ bs) =
+    let o = stepOn s (b ∷ bs) in
+    let later = linesOn n (o .state) (drop (o .answer .used) (b ∷ bs)) in
+    line (o .answer) ++ cond (stops (o .answer)) [] later
+
+call-on : (s : State) (rest : List ℕ) → Valid s → called (tables s) rest ≡ laid (stepOn s rest)
+unfolding called stepElement
+call-on s rest v = call-is s (record { bytes = rest; outputSize = 1024 }) v
+
+lines-on : (n : ℕ) (s : State) (rest : List ℕ) → Valid s → linesFrom n (tables s) rest ≡ linesOn n s rest
+unfolding linesFrom linesOn laid
+lines-on zero s rest v = refl
+lines-on (suc n) s [] v = refl
+lines-on (suc n) s (b ∷ bs) v =
+    let o = stepOn s (b ∷ bs) in
+    rw (call-on s (b ∷ bs) v, lines-on n (o .state) (drop (o .answer .used) (b ∷ bs)) (valid-on s (b ∷ bs) v))
+
+computed : header ++ linesOn 50 fresh exampleScript ≡ exampleSheet
+unfolding exampleScript exampleSheet hex linesOn bytesOf digitOf decimalIn decimal shownText spaced line header lastCode stops stands kinds among kindOf fromLittle field contents bytesField fields readFields readKind afterMap read fresh any bytesUsed full hasHandle handleOf freeFrom freeHandle first idle vacant beyond tests refusal withHeap withRunning withIdentity withEscrow written protected effect services number shown refusedAnswer refuse accepted settle step onReading stepOn
+computed = refl
+
+size : length exampleScript ≡ 50
+unfolding exampleScript hex
+size = refl
+
+pub example : Example
+unfolding sheet
+example = rw (size, fresh-tables, lines-on 50 fresh exampleScript valid-fresh) computed
+
+pub too-long-line : TooLongLine
+unfolding tooLong bytesOf digitOf decimalIn decimal shownText spaced line refusedAnswer
+too-long-line = refl

@@ -1,0 +1,4 @@
+pub mod Sheet
+pub mod Stored
+pub mod Turns
+pub mod Examples
