@@ -1,0 +1,336 @@
+//! The thirteen calls on a sound box. Each tests its refusals in rising order
+//! before it alters anything.
+
+use std::ops::Range;
+
+use crate::answer::{Answer, Refusal};
+use crate::record::{Call, read};
+use crate::sound::is_sound;
+use crate::tables::{
+    BoxRecord, EscrowRow, HEAP_SIZE, HEAPS_SIZE, Identity, LogRow, NONE_RUNS, OUTPUT_SIZE, PLACES,
+    Place, ROWS, SHARED_SIZE, Tables, VALUES_SIZE,
+};
+use crate::tags::{DRAW_LIMIT, Draw, Handle, Tag, free_handle, tag_of};
+
+/// Reads a record and makes its call. A lent buffer of a wrong size or an
+/// unsound box is refused first, with 15.
+pub fn call(tables: &mut Tables, output: &mut [u8], record: &[u8]) -> Answer {
+    match SoundBox::new(tables, output) {
+        Ok(mut sound_box) => sound_box.run(record),
+        Err(refusal) => Answer::refused(refusal, 0),
+    }
+}
+
+/// A box found sound, in buffers of their sizes. No call makes it unsound, so
+/// many can follow one test.
+pub struct SoundBox<'a> {
+    record: &'a mut BoxRecord,
+    heaps: &'a mut [u8; HEAPS_SIZE],
+    shared: &'a mut [u8; SHARED_SIZE],
+    log: &'a mut [LogRow; ROWS],
+    log_values: &'a mut [u8; VALUES_SIZE],
+    escrow: &'a mut [EscrowRow; ROWS],
+    escrow_values: &'a mut [u8; VALUES_SIZE],
+    output: &'a mut [u8; OUTPUT_SIZE],
+}
+
+impl<'a> SoundBox<'a> {
+    /// Tests sizes and soundness; refusal 15.
+    pub fn new(tables: &'a mut Tables<'_>, output: &'a mut [u8]) -> Result<Self, Refusal> {
+        let output = sized(output)?;
+        if !is_sound(tables) {
+            return Err(Refusal::Unsound);
+        }
+        Ok(SoundBox {
+            record: &mut tables.record,
+            heaps: sized(tables.heaps)?,
+            shared: sized(tables.shared)?,
+            log: sized(tables.log)?,
+            log_values: sized(tables.log_values)?,
+            escrow: sized(tables.escrow)?,
+            escrow_values: sized(tables.escrow_values)?,
+            output,
+        })
+    }
+
+    /// The output buffer.
+    pub fn output(&self) -> &[u8] {
+        self.output
+    }
+
+    /// Reads a record and makes its call.
+    pub fn run(&mut self, record: &[u8]) -> Answer {
+        match read(record) {
+            Ok((call, used)) => Answer { used, ..self.perform(&call) },
+            Err(refusal) => Answer::refused(refusal, 0),
+        }
+    }
+
+    /// Makes a call. No record is read, so bytes used is 0.
+    pub fn perform(&mut self, call: &Call) -> Answer {
+        let result = match *call {
+            Call::Create { place, identity } => self.create(place, identity).map(u64::from),
+            Call::Start { place } => self.start(place).map(|()| 0),
+            Call::Yield => self.yield_place().map(|()| 0),
+            Call::Exit => self.exit().map(|()| 0),
+            Call::HeapWrite { place, offset, bytes } => {
+                self.heap_write(place, offset, bytes).map(|()| count(bytes))
+            }
+            Call::HeapRead { place, offset, length } => {
+                self.heap_read(place, offset, length).map(|()| u64::from(length))
+            }
+            Call::SharedWrite { offset, bytes } => {
+                self.shared_write(offset, bytes).map(|()| count(bytes))
+            }
+            Call::SharedRead { offset, length } => {
+                self.shared_read(offset, length).map(|()| u64::from(length))
+            }
+            Call::Attest { offset, length } => self.attest(offset, length).map(|tag| tag.0),
+            Call::Check { identity, tag, bytes } => self.check(identity, bytes, tag).map(u64::from),
+            Call::Protect { identity, offset, length, draw } => {
+                self.protect(identity, offset, length, draw).map(|handle| handle.0)
+            }
+            Call::Retrieve { identity, offset, handle } => {
+                self.retrieve(identity, offset, handle).map(u64::from)
+            }
+            Call::Report => Ok(self.report()),
+        };
+        let number = match result {
+            Ok(number) => number,
+            Err(refusal) => return Answer::refused(refusal, 0),
+        };
+        let shown = match *call {
+            Call::HeapRead { length, .. } | Call::SharedRead { length, .. } => usize::from(length),
+            _ => 0,
+        };
+        Answer { code: 0, number, used: 0, shown }
+    }
+
+    /// 1: takes an empty place; the place.
+    pub fn create(&mut self, place: Place, identity: Identity) -> Result<Place, Refusal> {
+        let index = index_of(place)?;
+        if self.record.is_taken(index) {
+            return Err(Refusal::PlaceTakenOrEmpty);
+        }
+        non_zero(identity)?;
+        self.record.taken |= 1 << index;
+        self.record.identities[index] = identity;
+        Ok(place)
+    }
+
+    /// 2: that place runs.
+    pub fn start(&mut self, place: Place) -> Result<(), Refusal> {
+        if self.record.running != NONE_RUNS {
+            return Err(Refusal::OneRuns);
+        }
+        if !self.record.is_taken(index_of(place)?) {
+            return Err(Refusal::PlaceTakenOrEmpty);
+        }
+        self.record.running = place;
+        Ok(())
+    }
+
+    /// 3: none runs, heap retained.
+    pub fn yield_place(&mut self) -> Result<(), Refusal> {
+        self.running()?;
+        self.record.running = NONE_RUNS;
+        Ok(())
+    }
+
+    /// 4: the running place's heap is zeroed and the place emptied, none runs.
+    pub fn exit(&mut self) -> Result<(), Refusal> {
+        let place = self.running()?;
+        self.heap_mut(place).fill(0);
+        self.record.taken &= !(1 << place);
+        self.record.identities[place] = 0;
+        self.record.running = NONE_RUNS;
+        Ok(())
+    }
+
+    /// 5: bytes into the heap at offset.
+    pub fn heap_write(&mut self, place: Place, offset: u16, bytes: &[u8]) -> Result<(), Refusal> {
+        let place = self.running_is(place)?;
+        let part = part(offset, bytes.len(), HEAP_SIZE)?;
+        self.heap_mut(place)[part].copy_from_slice(bytes);
+        Ok(())
+    }
+
+    /// 6: shows length bytes.
+    pub fn heap_read(&mut self, place: Place, offset: u16, length: u16) -> Result<(), Refusal> {
+        let place = self.running_is(place)?;
+        let part = part(offset, usize::from(length), HEAP_SIZE)?;
+        let shown = &heap_of(self.heaps, place)[part];
+        self.output[..shown.len()].copy_from_slice(shown);
+        Ok(())
+    }
+
+    /// 7: as 5, shared.
+    pub fn shared_write(&mut self, offset: u16, bytes: &[u8]) -> Result<(), Refusal> {
+        let part = part(offset, bytes.len(), SHARED_SIZE)?;
+        self.shared[part].copy_from_slice(bytes);
+        Ok(())
+    }
+
+    /// 8: as 6, shared.
+    pub fn shared_read(&mut self, offset: u16, length: u16) -> Result<(), Refusal> {
+        let part = part(offset, usize::from(length), SHARED_SIZE)?;
+        let shown = &self.shared[part];
+        self.output[..shown.len()].copy_from_slice(shown);
+        Ok(())
+    }
+
+    /// 9: logs a part of the running heap; tag. A pair already logged adds no row.
+    pub fn attest(&mut self, offset: u16, length: u16) -> Result<Tag, Refusal> {
+        let place = self.running()?;
+        let part = part(offset, usize::from(length), HEAP_SIZE)?;
+        let identity = self.record.identities[place];
+        let value = &heap_of(self.heaps, place)[part];
+        let rows = usize::from(self.record.log_rows);
+        let bytes = usize::from(self.record.log_bytes);
+        let logged = self.log[..rows]
+            .iter()
+            .find(|row| row.identity == identity && row.value(self.log_values) == value);
+        if let Some(row) = logged {
+            return Ok(row.tag);
+        }
+        if rows == ROWS || bytes + value.len() > VALUES_SIZE {
+            return Err(Refusal::LogFull);
+        }
+        let tag = tag_of(identity, value);
+        self.log[rows] = LogRow { identity, tag, first: self.record.log_bytes, length };
+        self.log_values[bytes..][..value.len()].copy_from_slice(value);
+        self.record.log_rows += 1;
+        self.record.log_bytes += length;
+        Ok(tag)
+    }
+
+    /// 10: whether (identity, bytes, tag) is a log row. One of more than 256
+    /// bytes never is.
+    pub fn check(&self, identity: Identity, bytes: &[u8], tag: Tag) -> Result<bool, Refusal> {
+        non_zero(identity)?;
+        let used = &self.log[..usize::from(self.record.log_rows)];
+        Ok(used.iter().any(|row| {
+            row.identity == identity && row.tag == tag && row.value(self.log_values) == bytes
+        }))
+    }
+
+    /// 11: escrows a part of the running heap for identity; handle.
+    pub fn protect(
+        &mut self,
+        identity: Identity,
+        offset: u16,
+        length: u16,
+        draw: Draw,
+    ) -> Result<Handle, Refusal> {
+        let place = self.running()?;
+        non_zero(identity)?;
+        let part = part(offset, usize::from(length), HEAP_SIZE)?;
+        if draw.0 >= DRAW_LIMIT {
+            return Err(Refusal::DrawTooLarge);
+        }
+        let value = &heap_of(self.heaps, place)[part];
+        let rows = usize::from(self.record.escrow_rows);
+        let bytes = usize::from(self.record.escrow_bytes);
+        if rows == ROWS || bytes + value.len() > VALUES_SIZE {
+            return Err(Refusal::EscrowFull);
+        }
+        let handle = free_handle(&self.escrow[..rows], length, draw);
+        self.escrow[rows] = EscrowRow {
+            source: self.record.identities[place],
+            recipient: identity,
+            handle,
+            first: self.record.escrow_bytes,
+            length,
+        };
+        self.escrow_values[bytes..][..value.len()].copy_from_slice(value);
+        self.record.escrow_rows += 1;
+        self.record.escrow_bytes += length;
+        Ok(handle)
+    }
+
+    /// 12: copies the value with (handle, identity as source, running identity
+    /// as recipient) into the running heap at offset; its length.
+    pub fn retrieve(
+        &mut self,
+        identity: Identity,
+        offset: u16,
+        handle: Handle,
+    ) -> Result<u16, Refusal> {
+        let place = self.running()?;
+        non_zero(identity)?;
+        let recipient = self.record.identities[place];
+        let row = *self.escrow[..usize::from(self.record.escrow_rows)]
+            .iter()
+            .find(|row| {
+                row.handle == handle && row.source == identity && row.recipient == recipient
+            })
+            .ok_or(Refusal::NoSuchRow)?;
+        let part = part(offset, usize::from(row.length), HEAP_SIZE)?;
+        let value = row.value(self.escrow_values);
+        heap_of_mut(self.heaps, place)[part].copy_from_slice(value);
+        Ok(row.length)
+    }
+
+    /// 13: services + 256 times log rows + 65,536 times escrow rows.
+    pub fn report(&self) -> u64 {
+        u64::from(self.record.taken.count_ones())
+            + 256 * u64::from(self.record.log_rows)
+            + 65_536 * u64::from(self.record.escrow_rows)
+    }
+
+    /// The running place, or refusal 4.
+    fn running(&self) -> Result<usize, Refusal> {
+        match self.record.running {
+            NONE_RUNS => Err(Refusal::NoneRuns),
+            place => Ok(usize::from(place)),
+        }
+    }
+
+    /// The place when it is the running one, or refusal 4, 6 or 8.
+    fn running_is(&self, place: Place) -> Result<usize, Refusal> {
+        let running = self.running()?;
+        if index_of(place)? != running {
+            return Err(Refusal::NotRunning);
+        }
+        Ok(running)
+    }
+
+    fn heap_mut(&mut self, place: usize) -> &mut [u8] {
+        heap_of_mut(self.heaps, place)
+    }
+}
+
+/// The lent buffer as an array of its size, or refusal 15.
+fn sized<T, const N: usize>(lent: &mut [T]) -> Result<&mut [T; N], Refusal> {
+    lent.try_into().map_err(|_| Refusal::Unsound)
+}
+
+/// The place when it is at most 15, or refusal 6.
+fn index_of(place: Place) -> Result<usize, Refusal> {
+    let index = usize::from(place);
+    if index < PLACES { Ok(index) } else { Err(Refusal::NoSuchPlace) }
+}
+
+/// Refusal 9 when the identity is 0.
+fn non_zero(identity: Identity) -> Result<(), Refusal> {
+    if identity == 0 { Err(Refusal::ZeroIdentity) } else { Ok(()) }
+}
+
+/// The part of `length` bytes at `offset`, or refusal 11 when it is beyond `size`.
+fn part(offset: u16, length: usize, size: usize) -> Result<Range<usize>, Refusal> {
+    let first = usize::from(offset);
+    let end = first + length;
+    if end > size { Err(Refusal::Beyond) } else { Ok(first..end) }
+}
+
+fn heap_of(heaps: &[u8; HEAPS_SIZE], place: usize) -> &[u8] {
+    &heaps[place * HEAP_SIZE..][..HEAP_SIZE]
+}
+
+fn heap_of_mut(heaps: &mut [u8; HEAPS_SIZE], place: usize) -> &mut [u8] {
+    &mut heaps[place * HEAP_SIZE..][..HEAP_SIZE]
+}
+
+fn count(bytes: &[u8]) -> u64 {
+    bytes.len() as u64
+}

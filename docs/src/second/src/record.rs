@@ -1,0 +1,500 @@
+//! Call records: the reader and the writer.
+
+use crate::answer::Refusal;
+use crate::tables::{Identity, Place};
+use crate::tags::{Draw, Handle, Tag};
+
+// The map's bits.
+const KIND: u8 = 1 << 0;
+const PLACE: u8 = 1 << 1;
+const IDENTITY: u8 = 1 << 2;
+const OFFSET: u8 = 1 << 3;
+const LENGTH: u8 = 1 << 4;
+const NUMBER: u8 = 1 << 5;
+const BYTES: u8 = 1 << 6;
+
+/// The thirteen kinds of call. The value of each case is its number.
+#[derive(Clone, Copy, Debug, PartialEq, Eq)]
+#[repr(u8)]
+pub enum Kind {
+    Create = 1,
+    Start = 2,
+    Yield = 3,
+    Exit = 4,
+    HeapWrite = 5,
+    HeapRead = 6,
+    SharedWrite = 7,
+    SharedRead = 8,
+    Attest = 9,
+    Check = 10,
+    Protect = 11,
+    Retrieve = 12,
+    Report = 13,
+}
+
+impl Kind {
+    /// The kind with this number, or refusal 2.
+    pub fn from_number(number: u8) -> Result<Self, Refusal> {
+        Ok(match number {
+            1 => Kind::Create,
+            2 => Kind::Start,
+            3 => Kind::Yield,
+            4 => Kind::Exit,
+            5 => Kind::HeapWrite,
+            6 => Kind::HeapRead,
+            7 => Kind::SharedWrite,
+            8 => Kind::SharedRead,
+            9 => Kind::Attest,
+            10 => Kind::Check,
+            11 => Kind::Protect,
+            12 => Kind::Retrieve,
+            13 => Kind::Report,
+            0 | 14..=255 => return Err(Refusal::UnknownKind),
+        })
+    }
+
+    pub const fn number(self) -> u8 {
+        self as u8
+    }
+
+    /// The kind's one legal map.
+    pub const fn map(self) -> u8 {
+        match self {
+            Kind::Create => 0x07,
+            Kind::Start => 0x03,
+            Kind::Yield | Kind::Exit | Kind::Report => 0x01,
+            Kind::HeapWrite => 0x4B,
+            Kind::HeapRead => 0x1B,
+            Kind::SharedWrite => 0x49,
+            Kind::SharedRead | Kind::Attest => 0x19,
+            Kind::Check => 0x65,
+            Kind::Protect => 0x3D,
+            Kind::Retrieve => 0x2D,
+        }
+    }
+}
+
+/// The fields of a record but for kind and bytes. Those not in the kind's map
+/// don't matter.
+#[derive(Clone, Copy, Debug, Default, PartialEq, Eq)]
+pub struct Fields {
+    pub place: Place,
+    pub identity: Identity,
+    pub offset: u16,
+    pub length: u16,
+    pub number: u64,
+}
+
+/// A call: a kind and the fields of its map, no others.
+#[derive(Clone, Copy, Debug, PartialEq, Eq)]
+pub enum Call<'a> {
+    Create { place: Place, identity: Identity },
+    Start { place: Place },
+    Yield,
+    Exit,
+    HeapWrite { place: Place, offset: u16, bytes: &'a [u8] },
+    HeapRead { place: Place, offset: u16, length: u16 },
+    SharedWrite { offset: u16, bytes: &'a [u8] },
+    SharedRead { offset: u16, length: u16 },
+    Attest { offset: u16, length: u16 },
+    Check { identity: Identity, tag: Tag, bytes: &'a [u8] },
+    Protect { identity: Identity, offset: u16, length: u16, draw: Draw },
+    Retrieve { identity: Identity, offset: u16, handle: Handle },
+    Report,
+}
+
+impl<'a> Call<'a> {
+    /// The call of a kind, from the fields of its map.
+    pub fn from_parts(kind: Kind, fields: &Fields, bytes: &'a [u8]) -> Self {
+        let Fields { place, identity, offset, length, number } = *fields;
+        match kind {
+            Kind::Create => Call::Create { place, identity },
+            Kind::Start => Call::Start { place },
+            Kind::Yield => Call::Yield,
+            Kind::Exit => Call::Exit,
+            Kind::HeapWrite => Call::HeapWrite { place, offset, bytes },
+            Kind::HeapRead => Call::HeapRead { place, offset, length },
+            Kind::SharedWrite => Call::SharedWrite { offset, bytes },
+            Kind::SharedRead => Call::SharedRead { offset, length },
+            Kind::Attest => Call::Attest { offset, length },
+            Kind::Check => Call::Check { identity, tag: Tag(number), bytes },
+            Kind::Protect => Call::Protect { identity, offset, length, draw: Draw(number) },
+            Kind::Retrieve => Call::Retrieve { identity, offset, handle: Handle(number) },
+            Kind::Report => Call::Report,
+        }
+    }
+
+    /// The kind, the fields (0 where the map has none) and the bytes (empty
+    /// where the map has none).
+    pub fn parts(&self) -> (Kind, Fields, &'a [u8]) {
+        let mut fields = Fields::default();
+        let mut call_bytes: &[u8] = &[];
+        let kind = match *self {
+            Call::Create { place, identity } => {
+                fields.place = place;
+                fields.identity = identity;
+                Kind::Create
+            }
+            Call::Start { place } => {
+                fields.place = place;
+                Kind::Start
+            }
+            Call::Yield => Kind::Yield,
+            Call::Exit => Kind::Exit,
+            Call::HeapWrite { place, offset, bytes } => {
+                fields.place = place;
+                fields.offset = offset;
+                call_bytes = bytes;
+                Kind::HeapWrite
+            }
+            Call::HeapRead { place, offset, length } => {
+                fields.place = place;
+                fields.offset = offset;
+                fields.length = length;
+                Kind::HeapRead
+            }
+            Call::SharedWrite { offset, bytes } => {
+                fields.offset = offset;
+                call_bytes = bytes;
+                Kind::SharedWrite
+            }
+            Call::SharedRead { offset, length } => {
+                fields.offset = offset;
+                fields.length = length;
+                Kind::SharedRead
+            }
+            Call::Attest { offset, length } => {
+                fields.offset = offset;
+                fields.length = length;
+                Kind::Attest
+            }
+            Call::Check { identity, tag, bytes } => {
+                fields.identity = identity;
+                fields.number = tag.0;
+                call_bytes = bytes;
+                Kind::Check
+            }
+            Call::Protect { identity, offset, length, draw } => {
+                fields.identity = identity;
+                fields.offset = offset;
+                fields.length = length;
+                fields.number = draw.0;
+                Kind::Protect
+            }
+            Call::Retrieve { identity, offset, handle } => {
+                fields.identity = identity;
+                fields.offset = offset;
+                fields.number = handle.0;
+                Kind::Retrieve
+            }
+            Call::Report => Kind::Report,
+        };
+        (kind, fields, call_bytes)
+    }
+}
+
+/// The part of a record not yet read.
+struct Rest<'a>(&'a [u8]);
+
+impl<'a> Rest<'a> {
+    /// The next `count` bytes, or refusal 1.
+    fn take(&mut self, count: usize) -> Result<&'a [u8], Refusal> {
+        let (taken, rest) = self.0.split_at_checked(count).ok_or(Refusal::Cut)?;
+        self.0 = rest;
+        Ok(taken)
+    }
+
+    /// The next `N` bytes as an array, or refusal 1.
+    fn array<const N: usize>(&mut self) -> Result<[u8; N], Refusal> {
+        let (taken, rest) = self.0.split_first_chunk().ok_or(Refusal::Cut)?;
+        self.0 = rest;
+        Ok(*taken)
+    }
+
+    fn u8(&mut self) -> Result<u8, Refusal> {
+        self.array().map(u8::from_le_bytes)
+    }
+
+    fn u16(&mut self) -> Result<u16, Refusal> {
+        self.array().map(u16::from_le_bytes)
+    }
+
+    fn u64(&mut self) -> Result<u64, Refusal> {
+        self.array().map(u64::from_le_bytes)
+    }
+}
+
+/// Reads the record at the front of `input`: the call and the record's length,
+/// or refusal 1, 2 or 3. What follows the record doesn't matter.
+pub fn read(input: &[u8]) -> Result<(Call<'_>, usize), Refusal> {
+    let mut rest = Rest(input);
+    let map = rest.u8()?;
+    if map & KIND == 0 {
+        return Err(Refusal::UnknownKind);
+    }
+    let kind = Kind::from_number(rest.u8()?)?;
+    if map != kind.map() {
+        return Err(Refusal::WrongMap);
+    }
+    let mut fields = Fields::default();
+    let mut bytes: &[u8] = &[];
+    if map & PLACE != 0 {
+        fields.place = rest.u8()?;
+    }
+    if map & IDENTITY != 0 {
+        fields.identity = rest.u64()?;
+    }
+    if map & OFFSET != 0 {
+        fields.offset = rest.u16()?;
+    }
+    if map & LENGTH != 0 {
+        fields.length = rest.u16()?;
+    }
+    if map & NUMBER != 0 {
+        fields.number = rest.u64()?;
+    }
+    if map & BYTES != 0 {
+        let count = rest.u16()?;
+        bytes = rest.take(usize::from(count))?;
+    }
+    let used = input.len() - rest.0.len();
+    Ok((Call::from_parts(kind, &fields, bytes), used))
+}
+
+/// What the writer gives: 0 and the record's length, or a refusal's number and
+/// length 0.
+#[derive(Clone, Copy, Debug, PartialEq, Eq)]
+pub struct Written {
+    pub code: u8,
+    pub length: usize,
+}
+
+/// Writes a call's record at the front of `buffer`. The bytes beyond it, and on
+/// a refusal the whole buffer, are unaltered.
+pub fn write(kind: u8, fields: &Fields, bytes: &[u8], buffer: &mut [u8]) -> Written {
+    match try_write(kind, fields, bytes, buffer) {
+        Ok(length) => Written { code: 0, length },
+        Err(refusal) => Written { code: refusal.code(), length: 0 },
+    }
+}
+
+/// As [`write`], from a call.
+pub fn write_call(call: &Call, buffer: &mut [u8]) -> Written {
+    let (kind, fields, bytes) = call.parts();
+    write(kind.number(), &fields, bytes, buffer)
+}
+
+fn try_write(kind: u8, fields: &Fields, bytes: &[u8], buffer: &mut [u8]) -> Result<usize, Refusal> {
+    let map = Kind::from_number(kind)?.map();
+    let mut length = 2;
+    let mut count = 0;
+    for (bit, size) in [(PLACE, 1), (IDENTITY, 8), (OFFSET, 2), (LENGTH, 2), (NUMBER, 8)] {
+        if map & bit != 0 {
+            length += size;
+        }
+    }
+    if map & BYTES != 0 {
+        count = u16::try_from(bytes.len()).map_err(|_| Refusal::CannotWrite)?;
+        length += 2 + bytes.len();
+    }
+    let mut rest = buffer.get_mut(..length).ok_or(Refusal::CannotWrite)?;
+    put(&mut rest, &[map, kind]);
+    if map & PLACE != 0 {
+        put(&mut rest, &[fields.place]);
+    }
+    if map & IDENTITY != 0 {
+        put(&mut rest, &fields.identity.to_le_bytes());
+    }
+    if map & OFFSET != 0 {
+        put(&mut rest, &fields.offset.to_le_bytes());
+    }
+    if map & LENGTH != 0 {
+        put(&mut rest, &fields.length.to_le_bytes());
+    }
+    if map & NUMBER != 0 {
+        put(&mut rest, &fields.number.to_le_bytes());
+    }
+    if map & BYTES != 0 {
+        put(&mut rest, &count.to_le_bytes());
+        put(&mut rest, bytes);
+    }
+    Ok(length)
+}
+
+/// Puts a field at the front of `rest` and moves on behind it.
+fn put(rest: &mut &mut [u8], field: &[u8]) {
+    let (front, behind) = std::mem::take(rest).split_at_mut(field.len());
+    front.copy_from_slice(field);
+    *rest = behind;
+}
+
+#[cfg(test)]
+mod tests {
+    use super::*;
+
+    const MAPS: [u8; 13] =
+        [0x07, 0x03, 0x01, 0x01, 0x4B, 0x1B, 0x49, 0x19, 0x19, 0x65, 0x3D, 0x2D, 0x01];
+
+    /// One call of each kind, every field byte different.
+    fn samples() -> [Call<'static>; 13] {
+        let (place, identity) = (0x11, 0x2928_2726_2524_2322);
+        let (offset, length) = (0x3332, 0x4544);
+        let number = 0x5958_5756_5554_5352;
+        let bytes: &[u8] = &[0x61, 0x62, 0x63];
+        [
+            Call::Create { place, identity },
+            Call::Start { place },
+            Call::Yield,
+            Call::Exit,
+            Call::HeapWrite { place, offset, bytes },
+            Call::HeapRead { place, offset, length },
+            Call::SharedWrite { offset, bytes },
+            Call::SharedRead { offset, length },
+            Call::Attest { offset, length },
+            Call::Check { identity, tag: Tag(number), bytes },
+            Call::Protect { identity, offset, length, draw: Draw(number) },
+            Call::Retrieve { identity, offset, handle: Handle(number) },
+            Call::Report,
+        ]
+    }
+
+    /// The samples' records, written out by hand.
+    const RECORDS: [&[u8]; 13] = [
+        b"\x07\x01\x11\x22\x23\x24\x25\x26\x27\x28\x29",
+        b"\x03\x02\x11",
+        b"\x01\x03",
+        b"\x01\x04",
+        b"\x4B\x05\x11\x32\x33\x03\x00abc",
+        b"\x1B\x06\x11\x32\x33\x44\x45",
+        b"\x49\x07\x32\x33\x03\x00abc",
+        b"\x19\x08\x32\x33\x44\x45",
+        b"\x19\x09\x32\x33\x44\x45",
+        b"\x65\x0A\x22\x23\x24\x25\x26\x27\x28\x29\x52\x53\x54\x55\x56\x57\x58\x59\x03\x00abc",
+        b"\x3D\x0B\x22\x23\x24\x25\x26\x27\x28\x29\x32\x33\x44\x45\x52\x53\x54\x55\x56\x57\x58\x59",
+        b"\x2D\x0C\x22\x23\x24\x25\x26\x27\x28\x29\x32\x33\x52\x53\x54\x55\x56\x57\x58\x59",
+        b"\x01\x0D",
+    ];
+
+    #[test]
+    fn reads_and_writes_each_kind() {
+        for (n, (call, record)) in samples().iter().zip(RECORDS).enumerate() {
+            assert_eq!(record[0], MAPS[n]);
+            assert_eq!(usize::from(record[1]), n + 1);
+            assert_eq!(read(record), Ok((*call, record.len())));
+            // Bytes behind the record don't matter.
+            let mut longer = record.to_vec();
+            longer.extend([0xFF; 9]);
+            assert_eq!(read(&longer), Ok((*call, record.len())));
+            // Cut anywhere, it is 1.
+            for end in 0..record.len() {
+                assert_eq!(read(&record[..end]), Err(Refusal::Cut));
+            }
+            // Written into a longer buffer, one of the length, shorter ones.
+            let mut buffer = [0xEE; 40];
+            let length = record.len();
+            assert_eq!(write_call(call, &mut buffer), Written { code: 0, length });
+            assert_eq!(&buffer[..length], record);
+            assert!(buffer[length..].iter().all(|&byte| byte == 0xEE));
+            let mut buffer = vec![0xEE; length];
+            assert_eq!(write_call(call, &mut buffer), Written { code: 0, length });
+            assert_eq!(buffer, record);
+            for size in 0..length {
+                let mut buffer = vec![0xEE; size];
+                let written = write_call(call, &mut buffer);
+                assert_eq!(written, Written { code: 17, length: 0 });
+                assert!(buffer.iter().all(|&byte| byte == 0xEE));
+            }
+        }
+    }
+
+    #[test]
+    fn reader_order_for_every_map_and_kind() {
+        assert_eq!(read(&[]), Err(Refusal::Cut));
+        for map in 0..=255 {
+            let down = map & 1 == 0;
+            let expected = if down { Refusal::UnknownKind } else { Refusal::Cut };
+            assert_eq!(read(&[map]), Err(expected));
+            for kind in 0..=255 {
+                let long = [&[map, kind][..], &[0; 40]].concat();
+                for record in [&long[..2], &long] {
+                    let known = (1..=13).contains(&kind);
+                    if down || !known {
+                        assert_eq!(read(record), Err(Refusal::UnknownKind));
+                    } else if map != MAPS[usize::from(kind) - 1] {
+                        assert_eq!(read(record), Err(Refusal::WrongMap));
+                    } else if map != 1 && record.len() == 2 {
+                        assert_eq!(read(record), Err(Refusal::Cut));
+                    } else {
+                        let (call, used) = read(record).unwrap();
+                        assert_eq!(call.parts().0.number(), kind);
+                        assert!(used <= record.len());
+                    }
+                }
+            }
+        }
+    }
+
+    #[test]
+    fn writer_tests_the_kind_first() {
+        let too_many = vec![0; 65_536];
+        for kind in (0..=255).filter(|kind| !(1..=13).contains(kind)) {
+            for bytes in [&[][..], &too_many] {
+                let mut buffer = [0xEE; 3];
+                let refused = Written { code: 2, length: 0 };
+                assert_eq!(write(kind, &Fields::default(), bytes, &mut buffer), refused);
+                assert_eq!(write(kind, &Fields::default(), bytes, &mut []), refused);
+                assert_eq!(buffer, [0xEE; 3]);
+            }
+        }
+    }
+
+    #[test]
+    fn writer_and_the_count_of_bytes() {
+        let bytes: Vec<u8> = (0..65_537u32).map(|n| (n % 251) as u8).collect();
+        let fields = Fields { place: 1, identity: 2, offset: 3, length: 4, number: 5 };
+        for kind in 1..=13u8 {
+            let map = MAPS[usize::from(kind) - 1];
+            let has_bytes = map & 0x40 != 0;
+            for count in [0, 1, 255, 256, 257, 65_534, 65_535, 65_536, 65_537] {
+                let mut buffer = vec![0xEE; 70_000];
+                let written = write(kind, &fields, &bytes[..count], &mut buffer);
+                if has_bytes && count > 65_535 {
+                    assert_eq!(written, Written { code: 17, length: 0 });
+                    assert!(buffer.iter().all(|&byte| byte == 0xEE));
+                    continue;
+                }
+                assert_eq!(written.code, 0);
+                assert!(buffer[written.length..].iter().all(|&byte| byte == 0xEE));
+                let record = &buffer[..written.length];
+                let (call, used) = read(record).unwrap();
+                assert_eq!(used, written.length);
+                let expected = if has_bytes { &bytes[..count] } else { &[] };
+                assert_eq!(call.parts().2, expected);
+                // A call has one record, whatever the fields not in its map.
+                let mut again = vec![0xEE; written.length];
+                assert_eq!(write_call(&call, &mut again), written);
+                assert_eq!(again, record);
+                // One byte short of the record.
+                if has_bytes {
+                    again.fill(0xEE);
+                    again.pop();
+                    let short = write(kind, &fields, &bytes[..count], &mut again);
+                    assert_eq!(short, Written { code: 17, length: 0 });
+                    assert!(again.iter().all(|&byte| byte == 0xEE));
+                }
+            }
+        }
+    }
+
+    #[test]
+    fn longest_records() {
+        let bytes = vec![1; 65_535];
+        let mut buffer = vec![0; 70_000];
+        for (kind, length) in [(5, 65_542), (7, 65_541), (10, 65_555)] {
+            let written = write(kind, &Fields::default(), &bytes, &mut buffer);
+            assert_eq!(written, Written { code: 0, length });
+            assert_eq!(read(&buffer[..length]).unwrap().1, length);
+            assert_eq!(read(&buffer[..length - 1]), Err(Refusal::Cut));
+        }
+    }
+}

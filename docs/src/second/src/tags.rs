@@ -1,0 +1,130 @@
+//! Tags, handles and draws.
+
+use crate::tables::{EscrowRow, Identity};
+
+/// A draw is below this, 2^48. A handle is its length times this, plus a draw.
+pub const DRAW_LIMIT: u64 = 1 << 48;
+
+/// Names a logged pair.
+#[derive(Clone, Copy, Debug, Default, PartialEq, Eq)]
+pub struct Tag(pub u64);
+
+/// Names an escrow row.
+#[derive(Clone, Copy, Debug, Default, PartialEq, Eq)]
+pub struct Handle(pub u64);
+
+/// A number the host drew. One of 2^48 or more is refused by protect.
+#[derive(Clone, Copy, Debug, Default, PartialEq, Eq)]
+pub struct Draw(pub u64);
+
+const FNV_START: u64 = 14_695_981_039_346_656_037;
+const FNV_PRIME: u64 = 1_099_511_628_211;
+
+/// 64-bit FNV-1a.
+pub fn fnv1a(bytes: &[u8]) -> u64 {
+    fnv1a_on(FNV_START, bytes)
+}
+
+fn fnv1a_on(mut hash: u64, bytes: &[u8]) -> u64 {
+    for &byte in bytes {
+        hash = (hash ^ u64::from(byte)).wrapping_mul(FNV_PRIME);
+    }
+    hash
+}
+
+/// The tag of a pair: FNV-1a over the identity, lowest byte first, then the value.
+pub fn tag_of(identity: Identity, value: &[u8]) -> Tag {
+    Tag(fnv1a_on(fnv1a(&identity.to_le_bytes()), value))
+}
+
+impl Handle {
+    /// The handle of a length and a draw below 2^48.
+    fn new(length: u16, draw: u64) -> Self {
+        Handle(u64::from(length) * DRAW_LIMIT + draw)
+    }
+
+    /// The length the handle carries.
+    pub fn length(self) -> u16 {
+        (self.0 / DRAW_LIMIT) as u16
+    }
+}
+
+/// The handle of the first of `draw`, `draw` + 1, and so on modulo 2^48 that is
+/// in none of `rows`. The draw must be below 2^48. Each candidate passed over is
+/// in a row of its own, so at most as many are as there are rows.
+pub(crate) fn free_handle(rows: &[EscrowRow], length: u16, draw: Draw) -> Handle {
+    let mut draw = draw.0;
+    loop {
+        let handle = Handle::new(length, draw);
+        if rows.iter().all(|row| row.handle != handle) {
+            return handle;
+        }
+        draw = (draw + 1) % DRAW_LIMIT;
+    }
+}
+
+#[cfg(test)]
+mod tests {
+    use super::*;
+
+    /// From FNV's published list of test vectors.
+    #[test]
+    fn fnv_published_vectors() {
+        let vectors: [(&[u8], u64); 16] = [
+            (b"", 0xcbf2_9ce4_8422_2325),
+            (b"a", 0xaf63_dc4c_8601_ec8c),
+            (b"b", 0xaf63_df4c_8601_f1a5),
+            (b"c", 0xaf63_de4c_8601_eff2),
+            (b"d", 0xaf63_d94c_8601_e773),
+            (b"e", 0xaf63_d84c_8601_e5c0),
+            (b"f", 0xaf63_db4c_8601_ead9),
+            (b"fo", 0x0898_5907_b541_d342),
+            (b"foo", 0xdcb2_7518_fed9_d577),
+            (b"foob", 0xdd12_0e79_0c25_12af),
+            (b"fooba", 0xcac1_65af_a2fe_f40a),
+            (b"foobar", 0x8594_4171_f739_67e8),
+            (b"\0", 0xaf63_bd4c_8601_b7df),
+            (b"a\0", 0x089b_e207_b544_f1e4),
+            (b"foobar\0", 0x3453_1ca7_168b_8f38),
+            (b"chongo was here!\n", 0x4681_0940_eff5_f915),
+        ];
+        for (bytes, hash) in vectors {
+            assert_eq!(fnv1a(bytes), hash, "{bytes:?}");
+        }
+    }
+
+    #[test]
+    fn tag_is_fnv_over_identity_then_value() {
+        let identity = u64::from_le_bytes(*b"chongo w");
+        assert_eq!(tag_of(identity, b"as here!\n"), Tag(0x4681_0940_eff5_f915));
+        assert_eq!(tag_of(1, b""), Tag(fnv1a(&[1, 0, 0, 0, 0, 0, 0, 0])));
+    }
+
+    #[test]
+    fn handles_pass_over_taken_ones_and_wrap() {
+        let last = DRAW_LIMIT - 1;
+        let row = |handle| EscrowRow {
+            source: 1,
+            recipient: 1,
+            handle: Handle(handle),
+            first: 0,
+            length: 0,
+        };
+        assert_eq!(free_handle(&[], 0, Draw(last)), Handle(last));
+        assert_eq!(free_handle(&[row(last)], 0, Draw(last)), Handle(0));
+        let rows = [row(0), row(last), row(1)];
+        assert_eq!(free_handle(&rows, 0, Draw(last)), Handle(2));
+        // Another length is another handle.
+        assert_eq!(free_handle(&rows, 256, Draw(last)), Handle(256 * DRAW_LIMIT + last));
+        // 64 candidates passed over.
+        let rows: Vec<_> = (0..64).map(|n| row((last + n) % DRAW_LIMIT)).collect();
+        assert_eq!(free_handle(&rows, 0, Draw(last)), Handle(63));
+    }
+
+    #[test]
+    fn handle_carries_its_length() {
+        assert_eq!(Handle::new(5, 7), Handle(1_407_374_883_553_287));
+        assert_eq!(Handle::new(5, 7).length(), 5);
+        assert_eq!(Handle::new(256, DRAW_LIMIT - 1).length(), 256);
+    }
+}

@@ -1,0 +1,36 @@
+//! The program itself, fed through standard input.
+
+use std::io::Write;
+use std::process::{Command, Stdio};
+
+fn run(script: &[u8]) -> Vec<u8> {
+    let mut child = Command::new(env!("CARGO_BIN_EXE_second"))
+        .stdin(Stdio::piped())
+        .stdout(Stdio::piped())
+        .spawn()
+        .unwrap();
+    child.stdin.take().unwrap().write_all(script).unwrap();
+    let output = child.wait_with_output().unwrap();
+    assert!(output.status.success());
+    output.stdout
+}
+
+#[test]
+fn prints_the_sheet() {
+    let scripts: [&[u8]; 4] = [&[], &[1, 13], &[1], &[0x19, 8, 0, 0, 2, 0, 1, 3]];
+    for script in scripts {
+        assert_eq!(run(script), second::sheet(script));
+    }
+    assert_eq!(run(scripts[3]), b"code number used bytes\n0 2 6 0000\n4 0 2 -\n");
+}
+
+#[test]
+fn scripts_at_the_limit() {
+    for length in [65_535, 65_536, 65_537] {
+        let script: Vec<u8> = [1, 13].into_iter().cycle().take(length).collect();
+        let printed = run(&script);
+        assert_eq!(printed, second::sheet(&script));
+        let too_long = b"code number used bytes\n16 0 0 -\n";
+        assert_eq!(printed == too_long, length == 65_537);
+    }
+}

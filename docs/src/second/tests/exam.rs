@@ -1,0 +1,767 @@
+//! Document 01's exam cases, traps, boundaries and order of refusals, through
+//! the library's own doors.
+
+use second::*;
+
+const LAST_DRAW: u64 = 281_474_976_710_655;
+
+fn record_of(call: &Call) -> Vec<u8> {
+    let mut record = vec![0; 66_000];
+    let written = write_call(call, &mut record);
+    assert_eq!(written.code, 0);
+    record.truncate(written.length);
+    record
+}
+
+/// A host with its output buffer, which tests at each call what holds of all:
+/// the box stays sound, a refusal alters nothing, only reads touch the output.
+struct Bench {
+    host: Host,
+    output: Vec<u8>,
+}
+
+impl Bench {
+    fn fresh() -> Self {
+        Bench { host: Host::fresh(), output: vec![0xEE; OUTPUT_SIZE] }
+    }
+
+    /// With identities 1, 2 and 3 in places 0, 1 and 2, place 0 running.
+    fn busy() -> Self {
+        let mut bench = Bench::fresh();
+        for place in 0..3 {
+            bench.accept(Call::Create { place, identity: u64::from(place) + 1 });
+        }
+        bench.accept(Call::Start { place: 0 });
+        bench
+    }
+
+    fn raw(&mut self, record: &[u8]) -> Answer {
+        let host = self.host.clone();
+        let output = self.output.clone();
+        let answer = self.host.call(&mut self.output, record);
+        assert!(is_sound(&self.host.lend()));
+        assert!(self.output[answer.shown..] == output[answer.shown..]);
+        if answer.code != 0 {
+            assert_eq!((answer.number, answer.shown), (0, 0));
+            assert!(self.host == host);
+        }
+        answer
+    }
+
+    fn go(&mut self, call: Call) -> Answer {
+        let record = record_of(&call);
+        let answer = self.raw(&record);
+        assert_eq!(answer.used, record.len());
+        match call {
+            Call::HeapRead { length, .. } | Call::SharedRead { length, .. } if answer.code == 0 => {
+                assert_eq!(answer.shown, usize::from(length))
+            }
+            _ => assert_eq!(answer.shown, 0),
+        }
+        answer
+    }
+
+    fn accept(&mut self, call: Call) -> u64 {
+        let answer = self.go(call);
+        assert_eq!(answer.code, 0, "{call:?}");
+        answer.number
+    }
+
+    fn refuse(&mut self, code: u8, call: Call) {
+        assert_eq!(self.go(call).code, code, "{call:?}");
+    }
+
+    /// Yields if one runs, then starts `place`.
+    fn switch(&mut self, place: u8) {
+        self.go(Call::Yield);
+        self.accept(Call::Start { place });
+    }
+
+    fn put(&mut self, offset: u16, bytes: &[u8]) {
+        let place = self.host.record.running;
+        self.accept(Call::HeapWrite { place, offset, bytes });
+    }
+
+    fn get(&mut self, offset: u16, length: u16) -> Vec<u8> {
+        let place = self.host.record.running;
+        self.accept(Call::HeapRead { place, offset, length });
+        self.output[..usize::from(length)].to_vec()
+    }
+
+    fn protect(&mut self, identity: u64, offset: u16, length: u16, draw: u64) -> u64 {
+        self.accept(Call::Protect { identity, offset, length, draw: Draw(draw) })
+    }
+
+    fn check(&mut self, identity: u64, bytes: &[u8], tag: u64) -> u64 {
+        self.accept(Call::Check { identity, tag: Tag(tag), bytes })
+    }
+}
+
+// Exam cases.
+
+#[test]
+fn a_b_handles() {
+    let mut bench = Bench::busy();
+    assert_eq!(bench.protect(2, 0, 5, 7), 1_407_374_883_553_287);
+    assert_eq!(bench.protect(2, 0, 5, 7), 1_407_374_883_553_288);
+}
+
+#[test]
+fn c_d_handles_wrap() {
+    let mut bench = Bench::busy();
+    assert_eq!(bench.protect(2, 0, 0, LAST_DRAW), LAST_DRAW);
+    assert_eq!(bench.protect(2, 0, 0, LAST_DRAW), 0);
+    assert_eq!(bench.protect(2, 0, 0, LAST_DRAW), 1);
+    assert_eq!(bench.protect(2, 0, 0, 0), 2);
+    assert_eq!(bench.protect(2, 0, 256, LAST_DRAW), 256 * DRAW_LIMIT + LAST_DRAW);
+    assert_eq!(bench.protect(2, 0, 256, LAST_DRAW), 256 * DRAW_LIMIT);
+}
+
+#[test]
+fn e_f_heap_read_at_the_end() {
+    let mut bench = Bench::busy();
+    assert_eq!(bench.accept(Call::HeapRead { place: 0, offset: 256, length: 0 }), 0);
+    bench.refuse(11, Call::HeapRead { place: 0, offset: 256, length: 1 });
+}
+
+#[test]
+fn g_h_create_at_15_and_16() {
+    let mut bench = Bench::fresh();
+    assert_eq!(bench.accept(Call::Create { place: 15, identity: 1 }), 15);
+    bench.refuse(6, Call::Create { place: 16, identity: 1 });
+    bench.refuse(6, Call::Create { place: 255, identity: 1 });
+}
+
+#[test]
+fn i_retrieve_by_another_than_the_recipient() {
+    let mut bench = Bench::busy();
+    let handle = Handle(bench.protect(2, 0, 5, 7));
+    bench.switch(2);
+    bench.refuse(10, Call::Retrieve { identity: 1, offset: 300, handle });
+    bench.refuse(10, Call::Retrieve { identity: 1, offset: 0, handle });
+    bench.switch(1);
+    bench.refuse(11, Call::Retrieve { identity: 1, offset: 300, handle });
+    bench.refuse(10, Call::Retrieve { identity: 2, offset: 300, handle });
+    assert_eq!(bench.accept(Call::Retrieve { identity: 1, offset: 0, handle }), 5);
+}
+
+#[test]
+fn j_short_records() {
+    let mut bench = Bench::fresh();
+    assert_eq!(bench.raw(&[0x01]), Answer { code: 1, ..Answer::default() });
+    assert_eq!(bench.raw(&[0x02]), Answer { code: 2, ..Answer::default() });
+    assert_eq!(bench.raw(&[]), Answer { code: 1, ..Answer::default() });
+}
+
+#[test]
+fn draw_of_2_to_the_48() {
+    let mut bench = Bench::busy();
+    for draw in [281_474_976_710_656, u64::MAX] {
+        bench.refuse(12, Call::Protect { identity: 2, offset: 0, length: 1, draw: Draw(draw) });
+    }
+    assert_eq!(bench.protect(2, 0, 1, LAST_DRAW), DRAW_LIMIT + LAST_DRAW);
+}
+
+#[test]
+fn check_with_identity_0() {
+    let mut bench = Bench::fresh();
+    bench.refuse(9, Call::Check { identity: 0, tag: tag_of(0, b""), bytes: b"" });
+}
+
+#[test]
+fn the_65th_pair() {
+    let mut bench = Bench::busy();
+    let mut tags = Vec::new();
+    for n in 0..64 {
+        bench.put(0, &[n]);
+        let tag = bench.accept(Call::Attest { offset: 0, length: 1 });
+        assert_eq!(tag, tag_of(1, &[n]).0);
+        tags.push(tag);
+        assert_eq!(bench.accept(Call::Report), 3 + 256 * (u64::from(n) + 1));
+    }
+    bench.put(0, &[64]);
+    bench.refuse(13, Call::Attest { offset: 0, length: 1 });
+    bench.refuse(13, Call::Attest { offset: 0, length: 0 });
+    for n in 0..64 {
+        bench.put(0, &[n]);
+        let tag = tags[usize::from(n)];
+        assert_eq!(bench.accept(Call::Attest { offset: 0, length: 1 }), tag);
+        assert_eq!(bench.check(1, &[n], tag), 1);
+    }
+    assert_eq!(bench.check(1, &[64], tag_of(1, &[64]).0), 0);
+    // Another identity's pair is another pair.
+    bench.switch(1);
+    bench.put(0, &[5]);
+    bench.refuse(13, Call::Attest { offset: 0, length: 1 });
+    assert_eq!(bench.accept(Call::Report), 3 + 256 * 64);
+}
+
+// Traps.
+
+#[test]
+fn check_says_no_when_nothing_was_logged() {
+    let mut bench = Bench::busy();
+    bench.put(0, b"ab");
+    let tag = tag_of(1, b"ab").0;
+    assert_eq!(bench.check(1, b"ab", tag), 0);
+    assert_eq!(bench.accept(Call::Attest { offset: 0, length: 2 }), tag);
+    assert_eq!(bench.check(1, b"ab", tag), 1);
+    // Each of the three must be right.
+    assert_eq!(bench.check(1, b"ab", tag ^ 1), 0);
+    assert_eq!(bench.check(1, b"ac", tag), 0);
+    assert_eq!(bench.check(1, b"a", tag), 0);
+    assert_eq!(bench.check(1, b"ab\0", tag), 0);
+    assert_eq!(bench.check(2, b"ab", tag), 0);
+    assert_eq!(bench.check(2, b"ab", tag_of(2, b"ab").0), 0);
+    // None need run, and the logged outlasts its place.
+    bench.accept(Call::Exit);
+    assert_eq!(bench.check(1, b"ab", tag), 1);
+    // A pair logged again adds no row.
+    bench.accept(Call::Create { place: 9, identity: 1 });
+    bench.switch(9);
+    bench.put(100, b"ab");
+    assert_eq!(bench.accept(Call::Attest { offset: 100, length: 2 }), tag);
+    assert_eq!(bench.accept(Call::Report), 3 + 256);
+}
+
+#[test]
+fn retrieve_tests_all_three() {
+    let mut bench = Bench::busy();
+    bench.put(10, b"secret");
+    let handle = bench.protect(2, 10, 6, 7);
+    // The source itself isn't the recipient.
+    bench.refuse(10, Call::Retrieve { identity: 1, offset: 0, handle: Handle(handle) });
+    bench.switch(1);
+    let wrong = [(2, handle), (3, handle), (1, handle + 1), (1, handle - DRAW_LIMIT), (1, 0)];
+    for (identity, handle) in wrong {
+        bench.refuse(10, Call::Retrieve { identity, offset: 0, handle: Handle(handle) });
+    }
+    // At the heap's end, more than once, at most where it fits.
+    for offset in [0, 250] {
+        let retrieve = Call::Retrieve { identity: 1, offset, handle: Handle(handle) };
+        assert_eq!(bench.accept(retrieve), 6);
+        assert_eq!(bench.get(offset, 6), b"secret");
+    }
+    for offset in [251, 256, 65_535] {
+        bench.refuse(11, Call::Retrieve { identity: 1, offset, handle: Handle(handle) });
+    }
+    assert_eq!(bench.get(6, 244), [0; 244]);
+    // A second place of the recipient's identity is the same principal.
+    bench.accept(Call::Create { place: 8, identity: 2 });
+    bench.switch(8);
+    assert_eq!(bench.accept(Call::Retrieve { identity: 1, offset: 0, handle: Handle(handle) }), 6);
+    assert_eq!(bench.get(0, 6), b"secret");
+}
+
+#[test]
+fn what_is_escrowed_outlasts_the_source() {
+    let mut bench = Bench::busy();
+    bench.put(0, b"xyz");
+    let handle = Handle(bench.protect(2, 0, 3, 1));
+    bench.put(0, b"...");
+    bench.accept(Call::Exit);
+    bench.switch(1);
+    assert_eq!(bench.accept(Call::Retrieve { identity: 1, offset: 0, handle }), 3);
+    assert_eq!(bench.get(0, 4), b"xyz\0");
+}
+
+#[test]
+fn retrieve_of_an_empty_value() {
+    let mut bench = Bench::busy();
+    let handle = Handle(bench.protect(1, 256, 0, 0));
+    assert_eq!(handle, Handle(0));
+    assert_eq!(bench.accept(Call::Retrieve { identity: 1, offset: 256, handle }), 0);
+    bench.refuse(11, Call::Retrieve { identity: 1, offset: 257, handle });
+}
+
+#[test]
+fn heap_is_cleared_at_exit() {
+    let mut bench = Bench::busy();
+    bench.put(0, &[9; 256]);
+    bench.accept(Call::Yield);
+    assert_eq!(bench.host.heaps[..256], [9; 256]);
+    bench.accept(Call::Start { place: 0 });
+    assert_eq!(bench.get(0, 256), [9; 256]);
+    bench.accept(Call::Exit);
+    assert!(bench.host.heaps.iter().all(|&byte| byte == 0));
+    assert_eq!(bench.host.record.identities[0], 0);
+    assert_eq!((bench.host.record.taken, bench.host.record.running), (6, 16));
+    bench.refuse(7, Call::Start { place: 0 });
+    assert_eq!(bench.accept(Call::Report), 2);
+    bench.accept(Call::Create { place: 0, identity: 4 });
+    bench.switch(0);
+    assert_eq!(bench.get(0, 256), [0; 256]);
+}
+
+#[test]
+fn exit_leaves_the_other_heaps() {
+    let mut bench = Bench::busy();
+    bench.put(0, &[1; 256]);
+    bench.switch(2);
+    bench.put(0, &[3; 256]);
+    bench.switch(1);
+    bench.put(0, &[2; 256]);
+    bench.accept(Call::Exit);
+    assert_eq!(bench.host.heaps[..256], [1; 256]);
+    assert_eq!(bench.host.heaps[256..512], [0; 256]);
+    assert_eq!(bench.host.heaps[512..768], [3; 256]);
+}
+
+#[test]
+fn free_handle_among_all_rows() {
+    let mut bench = Bench::busy();
+    assert_eq!(bench.protect(2, 0, 5, 7), 5 * DRAW_LIMIT + 7);
+    assert_eq!(bench.protect(3, 0, 5, 7), 5 * DRAW_LIMIT + 8);
+    bench.switch(1);
+    assert_eq!(bench.protect(1, 0, 5, 7), 5 * DRAW_LIMIT + 9);
+    assert_eq!(bench.protect(1, 0, 5, 8), 5 * DRAW_LIMIT + 10);
+    assert_eq!(bench.protect(1, 0, 6, 7), 6 * DRAW_LIMIT + 7);
+}
+
+// Boundaries.
+
+#[test]
+fn heap_boundaries() {
+    let mut bench = Bench::busy();
+    let bytes = [5; 65_535];
+    let cases: [(u16, usize, bool); 14] = [
+        (0, 255, true),
+        (0, 256, true),
+        (0, 257, false),
+        (1, 255, true),
+        (1, 256, false),
+        (255, 0, true),
+        (255, 1, true),
+        (255, 2, false),
+        (256, 0, true),
+        (256, 1, false),
+        (257, 0, false),
+        (65_535, 0, false),
+        (65_535, 1, false),
+        (1, 65_535, false),
+    ];
+    for (offset, count, fits) in cases {
+        let code = if fits { 0 } else { 11 };
+        let number = if fits { count as u64 } else { 0 };
+        let length = count as u16;
+        let write = bench.go(Call::HeapWrite { place: 0, offset, bytes: &bytes[..count] });
+        assert_eq!((write.code, write.number), (code, number));
+        let read = bench.go(Call::HeapRead { place: 0, offset, length });
+        assert_eq!((read.code, read.number), (code, number));
+        if fits {
+            assert_eq!(&bench.output[..count], &bytes[..count]);
+        }
+        assert_eq!(bench.go(Call::Attest { offset, length }).code, code);
+        let draw = Draw(0);
+        assert_eq!(bench.go(Call::Protect { identity: 2, offset, length, draw }).code, code);
+    }
+    // Place 0's heap alone was written.
+    assert!(bench.host.heaps[256..].iter().all(|&byte| byte == 0));
+}
+
+#[test]
+fn heaps_lie_side_by_side() {
+    let mut bench = Bench::fresh();
+    for place in 0..16 {
+        bench.accept(Call::Create { place, identity: 7 });
+        bench.switch(place);
+        bench.put(0, &[place + 1; 256]);
+    }
+    assert_eq!(bench.accept(Call::Report), 16);
+    for (n, &byte) in bench.host.heaps.iter().enumerate() {
+        assert_eq!(usize::from(byte), n / 256 + 1);
+    }
+}
+
+#[test]
+fn shared_boundaries() {
+    let mut bench = Bench::fresh();
+    let bytes: Vec<u8> = (0..65_535u32).map(|n| (n % 251) as u8 + 1).collect();
+    let cases: [(u16, usize, bool); 14] = [
+        (0, 0, true),
+        (0, 1_023, true),
+        (0, 1_024, true),
+        (0, 1_025, false),
+        (1, 1_023, true),
+        (1, 1_024, false),
+        (1_023, 1, true),
+        (1_023, 2, false),
+        (1_024, 0, true),
+        (1_024, 1, false),
+        (1_025, 0, false),
+        (65_535, 1, false),
+        (65_535, 65_535, false),
+        (1, 65_535, false),
+    ];
+    for (offset, count, fits) in cases {
+        bench.host.shared.fill(0);
+        let code = if fits { 0 } else { 11 };
+        let number = if fits { count as u64 } else { 0 };
+        let write = bench.go(Call::SharedWrite { offset, bytes: &bytes[..count] });
+        assert_eq!((write.code, write.number), (code, number));
+        let read = bench.go(Call::SharedRead { offset, length: count as u16 });
+        assert_eq!((read.code, read.number), (code, number));
+        if fits {
+            let first = usize::from(offset);
+            assert_eq!(bench.output[..count], bytes[..count]);
+            assert_eq!(bench.host.shared[first..first + count], bytes[..count]);
+            let touched = bench.host.shared.iter().filter(|&&byte| byte != 0).count();
+            assert_eq!(touched, count);
+        }
+    }
+}
+
+#[test]
+fn check_of_256_and_257_bytes() {
+    let mut bench = Bench::busy();
+    let bytes: Vec<u8> = (0..=256).map(|n| n as u8).collect();
+    bench.put(0, &bytes[..256]);
+    let tag = bench.accept(Call::Attest { offset: 0, length: 256 });
+    assert_eq!(bench.check(1, &bytes[..256], tag), 1);
+    assert_eq!(bench.check(1, &bytes[..255], tag), 0);
+    assert_eq!(bench.check(1, &bytes, tag), 0);
+    assert_eq!(bench.check(1, &bytes, tag_of(1, &bytes).0), 0);
+    assert_eq!(bench.check(1, &[0; 65_535], tag), 0);
+}
+
+#[test]
+fn log_of_4096_bytes() {
+    let mut bench = Bench::busy();
+    for n in 0..15 {
+        bench.put(0, &[n; 256]);
+        bench.accept(Call::Attest { offset: 0, length: 256 });
+    }
+    bench.put(0, &[15; 256]);
+    bench.accept(Call::Attest { offset: 0, length: 255 });
+    assert_eq!(bench.host.record.log_bytes, 4_095);
+    bench.refuse(13, Call::Attest { offset: 0, length: 2 });
+    bench.refuse(13, Call::Attest { offset: 0, length: 256 });
+    bench.accept(Call::Attest { offset: 0, length: 1 });
+    assert_eq!(bench.host.record.log_bytes, 4_096);
+    bench.refuse(13, Call::Attest { offset: 0, length: 2 });
+    // Pairs already there, and the empty value, need no bytes.
+    assert_eq!(bench.accept(Call::Attest { offset: 9, length: 1 }), tag_of(1, &[15]).0);
+    assert_eq!(bench.accept(Call::Attest { offset: 9, length: 0 }), tag_of(1, b"").0);
+    assert_eq!(bench.host.record.log_rows, 18);
+    assert_eq!(bench.host.log[17].first, 4_096);
+    assert_eq!(bench.check(1, b"", tag_of(1, b"").0), 1);
+}
+
+#[test]
+fn escrow_of_4096_bytes() {
+    let mut bench = Bench::busy();
+    for n in 0..15 {
+        bench.put(0, &[n + 1; 256]);
+        assert_eq!(bench.protect(1, 0, 256, 0), 256 * DRAW_LIMIT + u64::from(n));
+    }
+    bench.put(0, &[16; 256]);
+    bench.protect(1, 0, 255, 0);
+    assert_eq!(bench.host.record.escrow_bytes, 4_095);
+    let protect = |length| Call::Protect { identity: 1, offset: 0, length, draw: Draw(0) };
+    bench.refuse(14, protect(2));
+    bench.refuse(14, protect(256));
+    bench.accept(protect(1));
+    assert_eq!(bench.host.record.escrow_bytes, 4_096);
+    bench.refuse(14, protect(1));
+    assert_eq!(bench.accept(protect(0)), 0);
+    assert_eq!(bench.host.escrow[17].first, 4_096);
+    for n in 0..15u8 {
+        let handle = Handle(256 * DRAW_LIMIT + u64::from(n));
+        assert_eq!(bench.accept(Call::Retrieve { identity: 1, offset: 0, handle }), 256);
+        assert_eq!(bench.get(0, 256), [n + 1; 256]);
+    }
+}
+
+#[test]
+fn escrow_of_64_rows() {
+    let mut bench = Bench::busy();
+    for n in 0..64 {
+        // The draw is 63 before the wrap, so the search crosses it.
+        let handle = (LAST_DRAW - 62 + n) % DRAW_LIMIT;
+        assert_eq!(bench.protect(2, 0, 0, LAST_DRAW - 62), handle);
+        assert_eq!(bench.accept(Call::Report), 3 + 65_536 * (n + 1));
+    }
+    let protect = |draw| Call::Protect { identity: 2, offset: 0, length: 0, draw: Draw(draw) };
+    bench.refuse(14, protect(5));
+    bench.refuse(14, protect(LAST_DRAW));
+    bench.refuse(12, protect(DRAW_LIMIT));
+}
+
+// Order of refusals, with several faults at once.
+
+#[test]
+fn order_when_none_runs() {
+    let mut bench = Bench::fresh();
+    bench.refuse(4, Call::Yield);
+    bench.refuse(4, Call::Exit);
+    bench.refuse(4, Call::HeapWrite { place: 16, offset: 300, bytes: b"x" });
+    bench.refuse(4, Call::HeapRead { place: 16, offset: 300, length: 1 });
+    bench.refuse(4, Call::Attest { offset: 300, length: 1 });
+    bench.refuse(4, Call::Protect { identity: 0, offset: 300, length: 1, draw: Draw(u64::MAX) });
+    bench.refuse(4, Call::Retrieve { identity: 0, offset: 300, handle: Handle(1) });
+    // These work though none runs.
+    bench.accept(Call::Create { place: 0, identity: 1 });
+    bench.accept(Call::Report);
+    bench.check(1, b"", 0);
+    bench.accept(Call::SharedWrite { offset: 0, bytes: b"x" });
+    bench.accept(Call::SharedRead { offset: 0, length: 1 });
+}
+
+#[test]
+fn order_in_create_and_start() {
+    let mut bench = Bench::fresh();
+    bench.refuse(6, Call::Create { place: 16, identity: 0 });
+    bench.refuse(9, Call::Create { place: 3, identity: 0 });
+    bench.accept(Call::Create { place: 3, identity: 1 });
+    bench.refuse(7, Call::Create { place: 3, identity: 0 });
+    bench.refuse(7, Call::Create { place: 3, identity: 1 });
+    bench.refuse(6, Call::Start { place: 16 });
+    bench.refuse(6, Call::Start { place: 19 });
+    bench.refuse(7, Call::Start { place: 4 });
+    bench.accept(Call::Start { place: 3 });
+    bench.refuse(5, Call::Start { place: 3 });
+    bench.refuse(5, Call::Start { place: 4 });
+    bench.refuse(5, Call::Start { place: 16 });
+    bench.accept(Call::Create { place: 4, identity: 1 });
+}
+
+#[test]
+fn order_in_heap_write_and_read() {
+    let mut bench = Bench::busy();
+    for (place, code) in [(16, 6), (255, 6), (1, 8), (15, 8), (0, 11)] {
+        bench.refuse(code, Call::HeapWrite { place, offset: 256, bytes: b"x" });
+        bench.refuse(code, Call::HeapRead { place, offset: 256, length: 1 });
+    }
+}
+
+#[test]
+fn order_in_attest_protect_retrieve() {
+    let mut bench = Bench::busy();
+    let too_large = Draw(DRAW_LIMIT);
+    for full in [false, true] {
+        if full {
+            for n in 0..64 {
+                bench.put(0, &[n]);
+                bench.accept(Call::Attest { offset: 0, length: 1 });
+                bench.protect(2, 0, 1, 0);
+            }
+            bench.put(0, &[64]);
+            bench.refuse(13, Call::Attest { offset: 0, length: 1 });
+            bench.refuse(14, Call::Protect { identity: 2, offset: 0, length: 1, draw: Draw(0) });
+        }
+        bench.refuse(11, Call::Attest { offset: 256, length: 1 });
+        bench.refuse(9, Call::Protect { identity: 0, offset: 256, length: 1, draw: too_large });
+        bench.refuse(11, Call::Protect { identity: 2, offset: 256, length: 1, draw: too_large });
+        bench.refuse(12, Call::Protect { identity: 2, offset: 0, length: 1, draw: too_large });
+        bench.refuse(9, Call::Retrieve { identity: 0, offset: 257, handle: Handle(0) });
+        bench.refuse(10, Call::Retrieve { identity: 2, offset: 257, handle: Handle(0) });
+        bench.refuse(9, Call::Check { identity: 0, tag: Tag(0), bytes: &[0; 257] });
+    }
+}
+
+#[test]
+fn order_of_15_and_the_record() {
+    let records: [&[u8]; 5] = [&[], &[2], &[1], &[1, 14], &[3, 3]];
+    for record in records {
+        let mut host = Host::fresh();
+        assert_eq!(host.call(&mut [0; 1_023], record).code, 15);
+        assert_ne!(host.call(&mut [0; 1_024], record).code, 15);
+        host.record.running = 0;
+        assert_eq!(host.call(&mut [0; 1_024], record).code, 15);
+    }
+    // Kind before map, map before a cut field, the record before the call.
+    let mut bench = Bench::fresh();
+    let cases: [(u8, &[u8]); 11] = [
+        (1, &[]),
+        (2, &[0x00]),
+        (2, &[0x06, 1]),
+        (1, &[0xFF]),
+        (2, &[0xFF, 14]),
+        (2, &[0xFF, 0]),
+        (3, &[0xFF, 1]),
+        (3, &[0x81, 3]),
+        (1, &[0x07, 1]),
+        (1, &[0x4B, 5, 16, 0, 0, 1, 0]),
+        (4, &[0x4B, 5, 16, 0, 0, 1, 0, 9]),
+    ];
+    for (code, record) in cases {
+        let answer = bench.raw(record);
+        let used = if code > 3 { record.len() } else { 0 };
+        assert_eq!(answer, Answer { code, used, ..Answer::default() });
+    }
+}
+
+#[test]
+fn an_entry_that_reads_no_record_uses_none() {
+    let mut host = Host::fresh();
+    let mut tables = host.lend();
+    let mut output = [0; OUTPUT_SIZE];
+    let mut sound_box = SoundBox::new(&mut tables, &mut output).unwrap();
+    assert_eq!(sound_box.perform(&Call::Report), Answer::default());
+    assert_eq!(sound_box.perform(&Call::Yield), Answer { code: 4, ..Answer::default() });
+}
+
+// The answer sheet.
+
+const EXAMPLE: [&[u8]; 7] = [
+    &[0x07, 0x01, 0, 1, 0, 0, 0, 0, 0, 0, 0],
+    &[0x03, 0x02, 0],
+    &[0x4B, 0x05, 0, 0, 0, 1, 0, 0x41],
+    &[0x3D, 0x0B, 1, 0, 0, 0, 0, 0, 0, 0, 0, 0, 1, 0, 7, 0, 0, 0, 0, 0, 0, 0],
+    &[0x01, 0x0D],
+    &[0x01, 0x03],
+    &[0x01, 0x03],
+];
+
+fn sheet_text(script: &[u8]) -> String {
+    String::from_utf8(sheet(script)).unwrap()
+}
+
+#[test]
+fn example_sheet() {
+    let expected = "\
+code number used bytes
+0 0 11 -
+0 0 3 -
+0 1 8 -
+0 281474976710663 22 -
+0 65537 2 -
+0 0 2 -
+4 0 2 -
+";
+    assert_eq!(sheet_text(&EXAMPLE.concat()), expected);
+}
+
+#[test]
+fn sheet_stops_after_1_2_and_3() {
+    assert_eq!(sheet(&[]), HEADER);
+    let cases: [(&[u8], &str); 6] = [
+        (&[1, 13, 1], "0 0 2 -\n1 0 0 -\n"),
+        (&[1, 13, 2, 1, 13], "0 0 2 -\n2 0 0 -\n"),
+        (&[1, 13, 1, 14, 1, 13], "0 0 2 -\n2 0 0 -\n"),
+        (&[1, 13, 3, 13, 1, 13], "0 0 2 -\n3 0 0 -\n"),
+        (&[1, 13, 3, 2], "0 0 2 -\n1 0 0 -\n"),
+        (&[1, 3, 1, 13], "4 0 2 -\n0 0 2 -\n"),
+    ];
+    for (script, lines) in cases {
+        assert_eq!(sheet_text(script), format!("code number used bytes\n{lines}"));
+    }
+}
+
+#[test]
+fn sheet_shows_bytes() {
+    let mut script = record_of(&Call::SharedWrite { offset: 1, bytes: &[0xAB, 0, 0x0F] });
+    script.extend(record_of(&Call::SharedRead { offset: 0, length: 5 }));
+    script.extend(record_of(&Call::SharedRead { offset: 2, length: 1 }));
+    script.extend(record_of(&Call::SharedRead { offset: 1_024, length: 0 }));
+    script.extend(record_of(&Call::SharedRead { offset: 1_024, length: 1 }));
+    let lines = "0 3 9 -\n0 5 6 00ab000f00\n0 1 6 00\n0 0 6 -\n11 0 6 -\n";
+    assert_eq!(sheet_text(&script), format!("code number used bytes\n{lines}"));
+}
+
+#[test]
+fn scripts_at_the_limit() {
+    let script: Vec<u8> = [1, 13].into_iter().cycle().take(65_537).collect();
+    let header = "code number used bytes\n";
+    let lines = |count| format!("{header}{}", "0 0 2 -\n".repeat(count));
+    assert_eq!(sheet_text(&script[..65_535]), lines(32_767) + "1 0 0 -\n");
+    assert_eq!(sheet_text(&script[..65_536]), lines(32_768));
+    assert_eq!(sheet_text(&script), format!("{header}16 0 0 -\n"));
+    // Too long a script prints no other line, whatever it holds.
+    assert_eq!(sheet_text(&[2; 70_000]), format!("{header}16 0 0 -\n"));
+    // The longest record that fits a script, cut and whole.
+    let write = record_of(&Call::SharedWrite { offset: 0, bytes: &[1; 65_530] });
+    assert_eq!(write.len(), 65_536);
+    assert_eq!(sheet_text(&write), format!("{header}11 0 65536 -\n"));
+    assert_eq!(sheet_text(&write[..65_535]), format!("{header}1 0 0 -\n"));
+}
+
+// Random scripts: the sheet, which tests soundness once, says what call after
+// call says, which tests it each time; and Bench's own tests hold.
+
+struct Random(u64);
+
+impl Random {
+    fn below(&mut self, limit: u64) -> u64 {
+        self.0 ^= self.0 << 13;
+        self.0 ^= self.0 >> 7;
+        self.0 ^= self.0 << 17;
+        (self.0 >> 11) % limit
+    }
+
+    /// Below `usual`, or one time in ten below `rare`.
+    fn mostly_below(&mut self, usual: u64, rare: u64) -> u64 {
+        let limit = if self.below(10) == 0 { rare } else { usual };
+        self.below(limit)
+    }
+
+    fn record(&mut self, numbers: &[u64]) -> Vec<u8> {
+        // Yields and exits are rare, so that the tables fill.
+        let kind = match self.below(24) {
+            0 => 3 + self.below(2) as u8,
+            1..=3 => 2,
+            n => [1, 5, 5, 5, 6, 7, 8, 9, 9, 9, 9, 10, 10, 11, 11, 11, 12, 12, 12, 13]
+                [n as usize - 4],
+        };
+        let number = match self.below(8) {
+            0 => self.below(3),
+            1 => LAST_DRAW + self.below(2),
+            _ if numbers.is_empty() => 0,
+            _ if kind == 11 => self.below(2),
+            _ => numbers[self.below(numbers.len() as u64) as usize],
+        };
+        let fields = Fields {
+            place: self.mostly_below(3, 18) as u8,
+            identity: self.mostly_below(2, 4) + self.below(2),
+            offset: self.mostly_below(5, 1_030) as u16,
+            length: self.mostly_below(5, 260) as u16,
+            number,
+        };
+        let count = self.mostly_below(5, 260);
+        let bytes: Vec<u8> = (0..count).map(|_| self.mostly_below(8, 256) as u8).collect();
+        let mut record = vec![0; 400];
+        let written = write(kind, &fields, &bytes, &mut record);
+        assert_eq!(written.code, 0);
+        record.truncate(written.length);
+        record
+    }
+}
+
+#[test]
+fn random_scripts() {
+    let mut random = Random(0x9E37_79B9_7F4A_7C15);
+    let mut codes = [0; 18];
+    for _ in 0..20 {
+        let mut bench = Bench::fresh();
+        let mut script = Vec::new();
+        let mut expected = String::from("code number used bytes\n");
+        let mut numbers = Vec::new();
+        for n in 0..1_600 {
+            let mut record = random.record(&numbers);
+            if n == 1_599 {
+                // The last is malformed in one way or another.
+                match random.below(3) {
+                    0 => record[0] ^= 1 << random.below(8),
+                    1 => record[1] = random.below(256) as u8,
+                    _ => drop(record.pop()),
+                }
+            }
+            let answer = bench.raw(&record);
+            codes[usize::from(answer.code)] += 1;
+            if answer.code == 0 && matches!(record[1], 9 | 11) {
+                numbers.push(answer.number);
+            }
+            let mut shown: String =
+                bench.output[..answer.shown].iter().map(|byte| format!("{byte:02x}")).collect();
+            if shown.is_empty() {
+                shown.push('-');
+            }
+            let Answer { code, number, used, .. } = answer;
+            expected += &format!("{code} {number} {used} {shown}\n");
+            script.extend(record);
+        }
+        assert_eq!(sheet_text(&script), expected);
+    }
+    // Every refusal a record can meet in a sound box was met.
+    assert!((0..=14).all(|code| codes[code] > 0), "{codes:?}");
+}

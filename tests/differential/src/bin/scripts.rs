@@ -1,0 +1,253 @@
+//! Feeds scripts to a program on its standard input and compares the sheet that
+//! it prints, byte for byte, with the one of `second`.
+//!
+//!     scripts PROGRAM [COUNT [FIRST_SEED]]
+//!
+//! The scripts are the cases of `differential::cases` and then COUNT generated
+//! ones, with the seeds from FIRST_SEED on. To see one failed seed again, give
+//! 1 and the seed.
+
+#![forbid(unsafe_code)]
+
+use std::ffi::{OsStr, OsString};
+use std::io::{self, ErrorKind, Write};
+use std::process::{Command, ExitCode, Stdio};
+use std::{env, thread};
+
+use differential::{Case, cases, play};
+use second::{ROWS, VALUES_SIZE, sheet};
+
+const COUNT: u64 = 2_400;
+
+/// So many failures are printed in full.
+const PRINTED: u64 = 10;
+
+fn main() -> ExitCode {
+    let mut arguments = env::args_os().skip(1);
+    let Some(program) = arguments.next() else {
+        eprintln!("usage: scripts PROGRAM [COUNT [FIRST_SEED]]");
+        return ExitCode::from(2);
+    };
+    let count = arguments.next().map_or(Some(COUNT), number);
+    let first = arguments.next().map_or(Some(0), number);
+    let (Some(count), Some(first)) = (count, first) else {
+        eprintln!("COUNT and FIRST_SEED are numbers");
+        return ExitCode::from(2);
+    };
+    let mut marker = Marker::default();
+    for case in cases::all() {
+        marker.compare(&program, &case);
+    }
+    let mut full = Full::default();
+    for seed in first..first.saturating_add(count) {
+        let played = play(seed);
+        full.count(&played.host.record);
+        let name = format!("generated script, seed {seed}");
+        marker.compare(&program, &Case::bare(name, played.script));
+    }
+    marker.coverage();
+    if count >= COUNT {
+        marker.check("generated scripts that fill the tables", full.everywhere());
+        println!("{full}");
+    }
+    marker.summary()
+}
+
+fn number(argument: OsString) -> Option<u64> {
+    argument.to_str()?.parse().ok()
+}
+
+/// The refusals that document 01 gives to each kind, from kind 1 on. The
+/// reader's come before a kind is known.
+const REFUSALS: [&[usize]; 13] = [
+    &[6, 7, 9],
+    &[5, 6, 7],
+    &[4],
+    &[4],
+    &[4, 6, 8, 11],
+    &[4, 6, 8, 11],
+    &[11],
+    &[11],
+    &[4, 11, 13],
+    &[9],
+    &[4, 9, 11, 12, 14],
+    &[4, 9, 10, 11],
+    &[],
+];
+
+/// Counts what passed and failed, and what was met on the way.
+#[derive(Default)]
+struct Marker {
+    passed: u64,
+    failed: u64,
+    /// Lines with each code.
+    codes: [u64; 18],
+    /// Lines with each code above 3, and accepted ones, for each kind.
+    kinds: [[u64; 18]; 14],
+}
+
+impl Marker {
+    /// One special check.
+    fn check(&mut self, what: &str, outcome: Result<(), String>) {
+        match outcome {
+            Ok(()) => self.passed += 1,
+            Err(message) => {
+                self.failed += 1;
+                if self.failed <= PRINTED {
+                    println!("FAILED: {what}: {message}");
+                }
+            }
+        }
+    }
+
+    /// One script: the program's sheet, the one of `second`, and where there is
+    /// one the sheet written by hand.
+    fn compare(&mut self, program: &OsStr, case: &Case) {
+        let expected = sheet(&case.script);
+        self.count_lines(&case.script, &expected);
+        let by_hand = match &case.sheet {
+            Some(by_hand) => same(by_hand.as_bytes(), &expected, "written by hand"),
+            None => Ok(()),
+        };
+        let outcome = by_hand.and_then(|()| match run(program, &case.script) {
+            Ok(printed) => same(&printed, &expected, "the program"),
+            Err(error) => Err(format!("the program: {error}")),
+        });
+        let with_script = |message| format!("{message}\nscript: {}", hex(&case.script));
+        self.check(&case.name, outcome.map_err(with_script));
+    }
+
+    /// Counts the lines by code, and by the kind of the record where one was read.
+    fn count_lines(&mut self, script: &[u8], sheet: &[u8]) {
+        let mut rest = script;
+        for line in sheet.split(|&byte| byte == b'\n').skip(1).filter(|line| !line.is_empty()) {
+            let mut fields = line.split(|&byte| byte == b' ');
+            let (code, used) = (field(fields.next()), field(fields.nth(1)));
+            self.codes[code] += 1;
+            if used > 0 {
+                self.kinds[usize::from(rest[1])][code] += 1;
+            }
+            rest = &rest[used..];
+        }
+    }
+
+    /// Every number that a sheet can show was met, and each kind met all its
+    /// refusals and no others.
+    fn coverage(&mut self) {
+        println!("refusal lines");
+        for (code, lines) in self.codes.iter().enumerate() {
+            println!("{code:7} {lines}");
+        }
+        for code in (0..=17).filter(|code| ![15, 17].contains(code)) {
+            let met = self.codes[code] > 0;
+            self.check(&format!("lines with {code}"), met.then_some(()).ok_or("none".into()));
+        }
+        for code in [15, 17] {
+            let met = self.codes[code] > 0;
+            self.check(&format!("no line with {code}"), (!met).then_some(()).ok_or("some".into()));
+        }
+        for (kind, refusals) in (1..).zip(REFUSALS) {
+            let met: Vec<usize> = (1..18).filter(|&code| self.kinds[kind][code] > 0).collect();
+            let all = met == refusals && self.kinds[kind][0] > 0;
+            let outcome = if all { Ok(()) } else { Err(format!("met {met:?}")) };
+            self.check(&format!("kind {kind}'s refusals {refusals:?}"), outcome);
+        }
+    }
+
+    fn summary(&self) -> ExitCode {
+        if self.failed > PRINTED {
+            println!("{} more failed", self.failed - PRINTED);
+        }
+        println!("{} passed, {} failed", self.passed, self.failed);
+        ExitCode::from(u8::from(self.failed > 0))
+    }
+}
+
+/// How many generated scripts end with a full table.
+#[derive(Default)]
+struct Full {
+    log_rows: u64,
+    log_bytes: u64,
+    escrow_rows: u64,
+    escrow_bytes: u64,
+}
+
+impl Full {
+    fn count(&mut self, record: &second::BoxRecord) {
+        self.log_rows += u64::from(usize::from(record.log_rows) == ROWS);
+        self.log_bytes += u64::from(usize::from(record.log_bytes) == VALUES_SIZE);
+        self.escrow_rows += u64::from(usize::from(record.escrow_rows) == ROWS);
+        self.escrow_bytes += u64::from(usize::from(record.escrow_bytes) == VALUES_SIZE);
+    }
+
+    fn everywhere(&self) -> Result<(), String> {
+        let counts = [self.log_rows, self.log_bytes, self.escrow_rows, self.escrow_bytes];
+        if counts.iter().all(|&count| count > 0) { Ok(()) } else { Err(self.to_string()) }
+    }
+}
+
+impl std::fmt::Display for Full {
+    fn fmt(&self, out: &mut std::fmt::Formatter) -> std::fmt::Result {
+        let Full { log_rows, log_bytes, escrow_rows, escrow_bytes } = self;
+        write!(
+            out,
+            "generated scripts that use all: log rows {log_rows}, log bytes {log_bytes}, \
+             escrow rows {escrow_rows}, escrow bytes {escrow_bytes}"
+        )
+    }
+}
+
+/// What the program prints on standard output. Document 01 gives no exit
+/// status, so only a program that was killed counts as failed.
+fn run(program: &OsStr, script: &[u8]) -> io::Result<Vec<u8>> {
+    let mut child = Command::new(program).stdin(Stdio::piped()).stdout(Stdio::piped()).spawn()?;
+    let mut stdin = child.stdin.take().expect("standard input is piped");
+    // A thread writes, so that a program may print before it has read all.
+    let (written, output) = thread::scope(|scope| {
+        let writer = scope.spawn(move || stdin.write_all(script));
+        let output = child.wait_with_output();
+        (writer.join().expect("the writer doesn't panic"), output)
+    });
+    match written {
+        // A program may leave input that it has no use for.
+        Err(error) if error.kind() != ErrorKind::BrokenPipe => return Err(error),
+        _ => {}
+    }
+    let output = output?;
+    match output.status.code() {
+        Some(_) => Ok(output.stdout),
+        None => Err(io::Error::other(output.status.to_string())),
+    }
+}
+
+/// Whether a sheet is the one of `second`, else the first line that differs.
+fn same(sheet: &[u8], expected: &[u8], whose: &str) -> Result<(), String> {
+    if sheet == expected {
+        return Ok(());
+    }
+    let mut lines = sheet.split_inclusive(|&byte| byte == b'\n');
+    let mut expected = expected.split_inclusive(|&byte| byte == b'\n');
+    let mut number = 1;
+    loop {
+        let (line, wanted) = (lines.next(), expected.next());
+        if line != wanted {
+            let (line, wanted) = (shown(line), shown(wanted));
+            return Err(format!("line {number}\n{whose}: {line}\nsecond: {wanted}"));
+        }
+        number += 1;
+    }
+}
+
+fn shown(line: Option<&[u8]>) -> String {
+    line.map_or("no such line".into(), |line| line.escape_ascii().to_string())
+}
+
+fn hex(bytes: &[u8]) -> String {
+    bytes.iter().map(|byte| format!("{byte:02x}")).collect()
+}
+
+/// A decimal field of a line.
+fn field(digits: Option<&[u8]>) -> usize {
+    let digits = digits.and_then(|digits| std::str::from_utf8(digits).ok());
+    digits.and_then(|digits| digits.parse().ok()).expect("a line has its fields")
+}

@@ -1,0 +1,72 @@
+//! A script, where it is worth while with its whole sheet written by hand.
+
+use std::fmt::Write;
+
+use second::Call;
+
+use crate::calls::record_of;
+
+pub struct Case {
+    pub name: String,
+    pub script: Vec<u8>,
+    /// The sheet that document 01 asks for, where it was written by hand.
+    pub sheet: Option<String>,
+}
+
+const HEADER: &str = "code number used bytes\n";
+
+impl Case {
+    /// Only a script: the two programs are compared with each other alone.
+    pub fn bare(name: impl Into<String>, script: Vec<u8>) -> Self {
+        Case { name: name.into(), script, sheet: None }
+    }
+
+    /// An empty script and its sheet. The methods below add to both.
+    pub fn new(name: impl Into<String>) -> Self {
+        Case { name: name.into(), script: Vec::new(), sheet: Some(HEADER.to_string()) }
+    }
+
+    /// The call is accepted with this number and shows nothing.
+    pub fn accept(&mut self, number: u64, call: Call) {
+        self.answer(0, number, call);
+    }
+
+    /// The call is refused with this code.
+    pub fn refuse(&mut self, code: u8, call: Call) {
+        self.answer(code, 0, call);
+    }
+
+    /// The call gets this code. `number` is the answer's where the code is 0.
+    pub fn answer(&mut self, code: u8, number: u64, call: Call) {
+        let record = record_of(&call);
+        let number = if code == 0 { number } else { 0 };
+        self.line(code, number, record.len(), &[]);
+        self.script.extend(record);
+    }
+
+    /// The read shows these bytes.
+    pub fn show(&mut self, bytes: &[u8], read: Call) {
+        let record = record_of(&read);
+        self.line(0, bytes.len() as u64, record.len(), bytes);
+        self.script.extend(record);
+    }
+
+    /// Bytes that end the sheet with code 1, 2 or 3.
+    pub fn malformed(&mut self, code: u8, bytes: &[u8]) {
+        self.line(code, 0, 0, &[]);
+        self.script.extend(bytes);
+    }
+
+    /// Adds a line to the sheet.
+    pub fn line(&mut self, code: u8, number: u64, used: usize, shown: &[u8]) {
+        let Some(sheet) = &mut self.sheet else { return };
+        write!(sheet, "{code} {number} {used} ").expect("a String takes all that is written");
+        if shown.is_empty() {
+            sheet.push('-');
+        }
+        for byte in shown {
+            write!(sheet, "{byte:02x}").expect("a String takes all that is written");
+        }
+        sheet.push('\n');
+    }
+}

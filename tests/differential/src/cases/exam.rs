@@ -1,0 +1,150 @@
+//! Document 01's example and its exam cases.
+
+use second::{Call, tag_of};
+
+use super::{handle, switch, three_services};
+use crate::calls::{attest, check, create, heap_read, heap_write, protect, retrieve};
+use crate::case::Case;
+
+const LAST_DRAW: u64 = 281_474_976_710_655;
+
+pub fn cases() -> Vec<Case> {
+    vec![
+        example(),
+        a_b(),
+        c_d(),
+        e_f(),
+        g_h(),
+        i(),
+        j("exam J, 01", 1, &[0x01]),
+        j("exam J, 02", 2, &[0x02]),
+        a_to_j(),
+        draw_too_large(),
+        check_of_identity_0(),
+        pair_65(),
+    ]
+}
+
+/// The script and the sheet as document 01 prints them.
+fn example() -> Case {
+    let script = b"\x07\x01\x00\x01\x00\x00\x00\x00\x00\x00\x00\
+        \x03\x02\x00\
+        \x4B\x05\x00\x00\x00\x01\x00\x41\
+        \x3D\x0B\x01\x00\x00\x00\x00\x00\x00\x00\x00\x00\x01\x00\x07\x00\x00\x00\x00\x00\x00\x00\
+        \x01\x0D\
+        \x01\x03\
+        \x01\x03";
+    let sheet = "\
+code number used bytes
+0 0 11 -
+0 0 3 -
+0 1 8 -
+0 281474976710663 22 -
+0 65537 2 -
+0 0 2 -
+4 0 2 -
+";
+    Case {
+        name: "document 01's example".into(),
+        script: script.to_vec(),
+        sheet: Some(sheet.into()),
+    }
+}
+
+fn a_b() -> Case {
+    let mut case = three_services("exam A and B");
+    case.accept(1_407_374_883_553_287, protect(2, 0, 5, 7));
+    case.accept(1_407_374_883_553_288, protect(2, 0, 5, 7));
+    case
+}
+
+fn c_d() -> Case {
+    let mut case = three_services("exam C and D");
+    case.accept(281_474_976_710_655, protect(2, 0, 0, LAST_DRAW));
+    case.accept(0, protect(2, 0, 0, LAST_DRAW));
+    case.accept(1, protect(2, 0, 0, LAST_DRAW));
+    case
+}
+
+fn e_f() -> Case {
+    let mut case = three_services("exam E and F");
+    case.accept(0, heap_read(0, 256, 0));
+    case.refuse(11, heap_read(0, 256, 1));
+    case
+}
+
+fn g_h() -> Case {
+    let mut case = Case::new("exam G and H");
+    case.accept(15, create(15, 1));
+    case.refuse(6, create(16, 1));
+    case
+}
+
+fn i() -> Case {
+    let mut case = three_services("exam I");
+    case.accept(handle(5, 7), protect(2, 0, 5, 7));
+    case.refuse(10, retrieve(1, 300, handle(5, 7)));
+    switch(&mut case, 2);
+    case.refuse(10, retrieve(1, 300, handle(5, 7)));
+    case.refuse(10, retrieve(1, 0, handle(5, 7)));
+    switch(&mut case, 1);
+    case.refuse(11, retrieve(1, 300, handle(5, 7)));
+    case.accept(5, retrieve(1, 0, handle(5, 7)));
+    case
+}
+
+fn j(name: &str, code: u8, record: &[u8]) -> Case {
+    let mut case = Case::new(name);
+    case.malformed(code, record);
+    case
+}
+
+/// The cases one after the other in one box.
+fn a_to_j() -> Case {
+    let mut case = three_services("exam A to J");
+    case.accept(1_407_374_883_553_287, protect(2, 0, 5, 7));
+    case.accept(1_407_374_883_553_288, protect(2, 0, 5, 7));
+    case.accept(281_474_976_710_655, protect(2, 0, 0, LAST_DRAW));
+    case.accept(0, protect(2, 0, 0, LAST_DRAW));
+    case.accept(0, heap_read(0, 256, 0));
+    case.refuse(11, heap_read(0, 256, 1));
+    case.accept(15, create(15, 1));
+    case.refuse(6, create(16, 1));
+    case.refuse(10, retrieve(1, 300, 1_407_374_883_553_287));
+    case.malformed(1, &[0x01]);
+    case
+}
+
+fn draw_too_large() -> Case {
+    let mut case = three_services("a draw of 2^48");
+    for draw in [LAST_DRAW + 1, LAST_DRAW + 2, 1 << 63, u64::MAX] {
+        case.refuse(12, protect(2, 0, 1, draw));
+    }
+    case.accept(handle(1, LAST_DRAW), protect(2, 0, 1, LAST_DRAW));
+    case
+}
+
+fn check_of_identity_0() -> Case {
+    let mut case = Case::new("check with identity 0");
+    case.refuse(9, check(0, tag_of(0, b"").0, b""));
+    case.refuse(9, check(0, 0, &[0; 300]));
+    case
+}
+
+/// The 65th pair is refused; each of the 64 still gets its tag.
+fn pair_65() -> Case {
+    let mut case = three_services("the 65th pair");
+    let attested = |case: &mut Case, code, n: u8| {
+        case.accept(1, heap_write(0, 0, &[n]));
+        case.answer(code, tag_of(1, &[n]).0, attest(0, 1));
+    };
+    for n in 0..64 {
+        attested(&mut case, 0, n);
+    }
+    attested(&mut case, 13, 64);
+    for n in 0..64 {
+        attested(&mut case, 0, n);
+    }
+    case.accept(3 + 256 * 64, Call::Report);
+    case
+}

@@ -1,0 +1,26 @@
+//! What the programs that compare two boxes share: scripts, sound and damaged
+//! boxes, and records, all made from fixed seeds.
+//!
+//! The first box is the proved one, seen from outside. The second is the crate
+//! `second`, written from document 01 alone.
+
+#![forbid(unsafe_code)]
+
+pub mod bases;
+pub mod calls;
+pub mod case;
+pub mod cases;
+pub mod clauses;
+pub mod damage;
+pub mod play;
+pub mod random;
+pub mod records;
+mod style;
+
+pub use bases::bases;
+pub use calls::record_of;
+pub use case::Case;
+pub use clauses::{Clause, broken};
+pub use damage::{Damage, damages, pairs, scramble};
+pub use play::{Played, play};
+pub use random::Random;

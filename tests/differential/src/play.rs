@@ -1,0 +1,386 @@
+//! Plays random calls on a fresh box and writes their records down. Most calls
+//! are acceptable, so that full logs and escrows are reached.
+
+use second::{
+    Answer, Call, DRAW_LIMIT, HEAP_SIZE, Host, OUTPUT_SIZE, PLACES, SHARED_SIZE, SoundBox,
+    VALUES_SIZE, read, tag_of,
+};
+
+use crate::calls::{
+    attest, check, create, heap_read, heap_write, protect, record_of, retrieve, shared_read,
+    shared_write, start,
+};
+use crate::random::Random;
+use crate::records::{self, Known};
+use crate::style::{STYLES, Style};
+
+/// A script and the sound box that it leads to, but for its last records: up to
+/// two of them may be anything, malformed too.
+pub struct Played {
+    pub script: Vec<u8>,
+    pub host: Host,
+}
+
+/// Plays a script of up to some hundred calls. The seed decides all of it.
+pub fn play(seed: u64) -> Played {
+    let mut random = Random::new(seed);
+    let style = STYLES[(seed % STYLES.len() as u64) as usize];
+    let calls = random.between(style.calls / 4, style.calls);
+    let (host, mut script) = played_on_fresh(&mut random, style, |player| {
+        for _ in 0..calls {
+            player.step();
+        }
+    });
+    if random.once_in(3) {
+        script.extend(records::any(&mut random, &Known::of(&host)));
+    }
+    if random.once_in(3) {
+        script.extend(records::malformed(&mut random, &Known::of(&host)));
+    }
+    Played { script, host }
+}
+
+/// A script of exactly this length, perhaps cut in its last record.
+pub fn long_script(seed: u64, length: usize) -> Vec<u8> {
+    let mut random = Random::new(seed);
+    let style = STYLES[(seed % STYLES.len() as u64) as usize];
+    let (_, mut script) = played_on_fresh(&mut random, style, |player| {
+        while player.script.len() < length {
+            player.step();
+        }
+    });
+    script.truncate(length);
+    script
+}
+
+fn played_on_fresh(
+    random: &mut Random,
+    style: Style,
+    plan: impl FnOnce(&mut Player),
+) -> (Host, Vec<u8>) {
+    let mut host = Host::fresh();
+    let mut tables = host.lend();
+    let mut output = [0; OUTPUT_SIZE];
+    let sound_box = SoundBox::new(&mut tables, &mut output).expect("a fresh box is sound");
+    let mut player = Player::new(sound_box, random, style);
+    plan(&mut player);
+    let script = player.script;
+    host.record = tables.record;
+    (host, script)
+}
+
+/// Small identities, large ones, and ones that differ from another in one bit.
+fn identities(random: &mut Random, count: usize) -> Vec<u64> {
+    let base = random.u64();
+    let identity = |n| match random.below(3) {
+        0 => n as u64 + 1,
+        1 => base ^ (1 << random.below(64)),
+        _ => random.u64(),
+    };
+    (0..count).map(identity).map(|identity| identity.max(1)).collect()
+}
+
+#[derive(Clone, PartialEq, Eq)]
+struct Logged {
+    identity: u64,
+    tag: u64,
+    value: Vec<u8>,
+}
+
+#[derive(Clone, Copy)]
+struct Escrowed {
+    source: u64,
+    recipient: u64,
+    handle: u64,
+    length: u16,
+}
+
+/// Chooses calls by what it remembers of the answers before.
+struct Player<'a> {
+    sound_box: SoundBox<'a>,
+    random: &'a mut Random,
+    style: Style,
+    /// The identities to choose from, and the tags and handles given so far.
+    known: Known,
+    /// The identity in each place, 0 where it is empty.
+    places: [u64; PLACES],
+    running: Option<u8>,
+    logged: Vec<Logged>,
+    escrowed: Vec<Escrowed>,
+    script: Vec<u8>,
+}
+
+impl<'a> Player<'a> {
+    fn new(sound_box: SoundBox<'a>, random: &'a mut Random, style: Style) -> Self {
+        let known = Known { identities: identities(random, style.identities), numbers: Vec::new() };
+        Player {
+            sound_box,
+            random,
+            style,
+            known,
+            places: [0; PLACES],
+            running: None,
+            logged: Vec::new(),
+            escrowed: Vec::new(),
+            script: Vec::new(),
+        }
+    }
+
+    /// Makes one call and remembers what it did.
+    fn step(&mut self) {
+        let record = self.record();
+        let answer = self.sound_box.run(&record);
+        if answer.code == 0 {
+            let (call, _) = read(&record).expect("an accepted record was read");
+            self.remember(&call, &answer);
+        }
+        self.script.extend(record);
+    }
+
+    fn remember(&mut self, call: &Call, answer: &Answer) {
+        match *call {
+            Call::Create { place, identity } => self.places[usize::from(place)] = identity,
+            Call::Start { place } => self.running = Some(place),
+            Call::Yield => self.running = None,
+            Call::Exit => {
+                if let Some(place) = self.running.take() {
+                    self.places[usize::from(place)] = 0;
+                }
+            }
+            Call::Attest { offset, length } => {
+                let (identity, tag) = (self.runner(), answer.number);
+                let logged = Logged { identity, tag, value: self.heap_part(offset, length) };
+                if !self.logged.contains(&logged) {
+                    self.known.numbers.push(tag);
+                    self.logged.push(logged);
+                }
+            }
+            Call::Protect { identity, length, .. } => {
+                let (source, handle) = (self.runner(), answer.number);
+                self.known.numbers.push(handle);
+                self.escrowed.push(Escrowed { source, recipient: identity, handle, length });
+            }
+            _ => {}
+        }
+    }
+
+    /// The running identity, or 0.
+    fn runner(&self) -> u64 {
+        self.running.map_or(0, |place| self.places[usize::from(place)])
+    }
+
+    /// A part of the running heap. No call shows the output buffer's remainder,
+    /// so this look at it leaves no trace.
+    fn heap_part(&mut self, offset: u16, length: u16) -> Vec<u8> {
+        let place = self.running.expect("a service runs");
+        self.sound_box.heap_read(place, offset, length).expect("the part is in the heap");
+        self.sound_box.output()[..usize::from(length)].to_vec()
+    }
+
+    /// The next record.
+    fn record(&mut self) -> Vec<u8> {
+        if self.random.once_in(self.style.loose) {
+            return records::whole(self.random, &self.known);
+        }
+        match self.running {
+            None => self.while_none_runs(),
+            Some(place) => self.while_running(place),
+        }
+    }
+
+    fn while_none_runs(&mut self) -> Vec<u8> {
+        match self.random.below(12) {
+            0 => self.check(),
+            1 => self.shared_write(),
+            2 => self.shared_read(),
+            3 | 4 => self.create(),
+            _ => self.start(),
+        }
+    }
+
+    fn while_running(&mut self, place: u8) -> Vec<u8> {
+        match self.random.pick(self.style.kinds) {
+            1 => self.create(),
+            3 => record_of(&Call::Yield),
+            4 => record_of(&Call::Exit),
+            5 => self.heap_write(place),
+            6 => self.heap_read(place),
+            7 => self.shared_write(),
+            8 => self.shared_read(),
+            9 => self.attest(),
+            10 => self.check(),
+            11 => self.protect(),
+            12 => self.retrieve(),
+            _ => record_of(&Call::Report),
+        }
+    }
+
+    /// Takes an empty place; a report when there is none.
+    fn create(&mut self) -> Vec<u8> {
+        match self.place_where(|identity| identity == 0) {
+            Some(place) => record_of(&create(place, self.random.pick(&self.known.identities))),
+            None => record_of(&Call::Report),
+        }
+    }
+
+    /// Starts a taken place; a create when there is none.
+    fn start(&mut self) -> Vec<u8> {
+        match self.place_where(|identity| identity != 0) {
+            Some(place) => record_of(&start(place)),
+            None => self.create(),
+        }
+    }
+
+    fn place_where(&mut self, holds: fn(u64) -> bool) -> Option<u8> {
+        let places: Vec<u8> =
+            (0..PLACES as u8).filter(|&place| holds(self.places[usize::from(place)])).collect();
+        if places.is_empty() { None } else { Some(self.random.pick(&places)) }
+    }
+
+    /// Half of the writes fill a good part of the heap.
+    fn heap_write(&mut self, place: u8) -> Vec<u8> {
+        let count = match self.random.below(2) {
+            0 => self.random.between(100, HEAP_SIZE as u16),
+            _ => self.random.between(0, 8),
+        };
+        let offset = self.offset(HEAP_SIZE, count);
+        let bytes = self.random.bytes(usize::from(count), self.style.alphabet);
+        record_of(&heap_write(place, offset, &bytes))
+    }
+
+    fn heap_read(&mut self, place: u8) -> Vec<u8> {
+        let length = self.random.between(0, HEAP_SIZE as u16);
+        record_of(&heap_read(place, self.offset(HEAP_SIZE, length), length))
+    }
+
+    fn shared_write(&mut self) -> Vec<u8> {
+        let count = self.shared_length();
+        let offset = self.offset(SHARED_SIZE, count);
+        let bytes = self.random.bytes(usize::from(count), 256);
+        record_of(&shared_write(offset, &bytes))
+    }
+
+    fn shared_read(&mut self) -> Vec<u8> {
+        let length = self.shared_length();
+        record_of(&shared_read(self.offset(SHARED_SIZE, length), length))
+    }
+
+    fn shared_length(&mut self) -> u16 {
+        let most = if self.random.once_in(4) { SHARED_SIZE as u16 } else { 20 };
+        self.random.between(0, most)
+    }
+
+    /// An offset where the length fits, one time in four at the very end.
+    fn offset(&mut self, size: usize, length: u16) -> u16 {
+        let last = size as u16 - length;
+        if self.random.once_in(4) { last } else { self.random.between(0, last) }
+    }
+
+    /// A value's length. When few bytes are left in the table it sometimes takes
+    /// just these, or one more.
+    fn value_length(&mut self, used: usize) -> u16 {
+        let left = (VALUES_SIZE - used) as u16;
+        let (least, most) = self.style.values;
+        match self.random.below(4) {
+            0 if left <= most => left,
+            1 if left < most => left + 1,
+            _ => self.random.between(least, most),
+        }
+    }
+
+    fn attest(&mut self) -> Vec<u8> {
+        let used = self.logged.iter().map(|logged| logged.value.len()).sum();
+        let length = self.value_length(used);
+        record_of(&attest(self.offset(HEAP_SIZE, length), length))
+    }
+
+    /// A logged row, or one with a single thing wrong; or a pair never logged
+    /// with the tag it would have.
+    fn check(&mut self) -> Vec<u8> {
+        let other = self.random.pick(&self.known.identities);
+        if self.logged.is_empty() || self.random.once_in(8) {
+            let value = self.random.bytes(2, self.style.alphabet);
+            return record_of(&check(other, tag_of(other, &value).0, &value));
+        }
+        let chosen = self.random.index(self.logged.len());
+        let Logged { mut identity, mut tag, mut value } = self.logged[chosen].clone();
+        match self.random.below(8) {
+            0 => tag ^= 1 << self.random.below(64),
+            1 => identity = other,
+            2 => value.push(0),
+            3 if !value.is_empty() => value[0] ^= 1,
+            _ => {}
+        }
+        record_of(&check(identity, tag, &value))
+    }
+
+    /// The draws lie on both sides of 0, so that the search for a handle wraps.
+    fn protect(&mut self) -> Vec<u8> {
+        let recipient = self.random.pick(&self.known.identities);
+        let used = self.escrowed.iter().map(|escrowed| usize::from(escrowed.length)).sum();
+        let length = self.value_length(used);
+        let draws = self.style.draws;
+        let draw = (DRAW_LIMIT - draws / 2 + self.random.below(draws)) % DRAW_LIMIT;
+        record_of(&protect(recipient, self.offset(HEAP_SIZE, length), length, draw))
+    }
+
+    /// Mostly a value escrowed for the running identity, if there is one.
+    fn retrieve(&mut self) -> Vec<u8> {
+        let runner = self.runner();
+        let mine: Vec<Escrowed> =
+            self.escrowed.iter().copied().filter(|row| row.recipient == runner).collect();
+        let all = if mine.is_empty() || self.random.once_in(8) { &self.escrowed } else { &mine };
+        if all.is_empty() {
+            return record_of(&Call::Report);
+        }
+        let Escrowed { mut source, handle, length, .. } = self.random.pick(all);
+        if self.random.once_in(8) {
+            source = self.random.pick(&self.known.identities);
+        }
+        record_of(&retrieve(source, self.offset(HEAP_SIZE, length), handle))
+    }
+}
+
+#[cfg(test)]
+mod tests {
+    use super::*;
+    use second::{ROWS, is_sound, sheet};
+
+    /// The boxes are sound, scripts come out the same each time, and the tables
+    /// are filled to the last row and byte.
+    #[test]
+    fn boxes_are_sound_and_some_are_full() {
+        let mut full = [0; 4];
+        for seed in 0..160 {
+            let mut played = play(seed);
+            assert!(is_sound(&played.host.lend()));
+            assert!(played.script == play(seed).script);
+            let record = played.host.record;
+            full[0] += usize::from(usize::from(record.log_rows) == ROWS);
+            full[1] += usize::from(usize::from(record.log_bytes) == VALUES_SIZE);
+            full[2] += usize::from(usize::from(record.escrow_rows) == ROWS);
+            full[3] += usize::from(usize::from(record.escrow_bytes) == VALUES_SIZE);
+        }
+        assert!(full.iter().all(|&count| count > 0), "{full:?}");
+    }
+
+    /// Most calls are accepted, whatever the style.
+    #[test]
+    fn most_calls_are_accepted() {
+        for seed in 0..8 {
+            let script = long_script(seed, 20_000);
+            let sheet = String::from_utf8(sheet(&script)).expect("a sheet is ASCII");
+            let lines = sheet.lines().count() - 1;
+            let accepted = sheet.lines().filter(|line| line.starts_with("0 ")).count();
+            println!("seed {seed}: {accepted} of {lines}");
+            assert!(2 * accepted > lines);
+        }
+    }
+
+    #[test]
+    fn long_scripts_have_their_length() {
+        for length in [0, 1, 1_000, 65_537] {
+            assert_eq!(long_script(3, length).len(), length);
+        }
+    }
+}

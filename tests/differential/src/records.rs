@@ -1,0 +1,175 @@
+//! Record bytes made with no regard to what a call on them would answer, and
+//! sizes of output buffers.
+
+use second::{DRAW_LIMIT, Fields, HEAP_SIZE, Host, OUTPUT_SIZE, SHARED_SIZE, write};
+
+use crate::random::Random;
+
+/// Offsets, lengths and counts at the limits of heap and shared memory.
+const EDGES: [u16; 18] =
+    [0, 1, 2, 3, 5, 128, 254, 255, 256, 257, 300, 512, 1_022, 1_023, 1_024, 1_025, 65_280, 65_535];
+
+/// Numbers that no box gave: draws and handles at their limits.
+const NUMBERS: [u64; 8] =
+    [0, 1, 2, DRAW_LIMIT - 1, DRAW_LIMIT, DRAW_LIMIT + 1, 256 * DRAW_LIMIT, u64::MAX];
+
+/// What a record may name so that it fits a box.
+#[derive(Default)]
+pub struct Known {
+    pub identities: Vec<u64>,
+    /// Tags and handles.
+    pub numbers: Vec<u64>,
+}
+
+impl Known {
+    /// What stands in a host's tables.
+    pub fn of(host: &Host) -> Self {
+        let places = host.record.identities.iter().copied();
+        let loggers = host.log.iter().map(|row| row.identity);
+        let sources = host.escrow.iter().map(|row| row.source);
+        let recipients = host.escrow.iter().map(|row| row.recipient);
+        let tags = host.log.iter().map(|row| row.tag.0);
+        let handles = host.escrow.iter().map(|row| row.handle.0);
+        Known {
+            identities: places.chain(loggers).chain(sources).chain(recipients).collect(),
+            numbers: tags.chain(handles).collect(),
+        }
+    }
+}
+
+/// A whole record of a random kind. Any field may be at fault, or several.
+pub fn whole(random: &mut Random, known: &Known) -> Vec<u8> {
+    let kind = random.between(1, 13) as u8;
+    let fields = Fields {
+        place: place(random),
+        identity: identity(random, known),
+        offset: edge(random),
+        length: edge(random),
+        number: number(random, known),
+    };
+    let bytes = bytes(random);
+    let mut record = vec![0; 32 + bytes.len()];
+    let written = write(kind, &fields, &bytes, &mut record);
+    assert_eq!(written.code, 0);
+    record.truncate(written.length);
+    record
+}
+
+fn place(random: &mut Random) -> u8 {
+    match random.below(8) {
+        0 => random.byte(),
+        1 => random.pick(&[14, 15, 16, 17, 255]),
+        _ => random.below(4) as u8,
+    }
+}
+
+fn identity(random: &mut Random, known: &Known) -> u64 {
+    match random.below(8) {
+        0 => 0,
+        1 => random.u64(),
+        2 => random.below(4),
+        _ if known.identities.is_empty() => 1,
+        _ => random.pick(&known.identities),
+    }
+}
+
+/// Half of them are small, so that whole calls are accepted too.
+fn edge(random: &mut Random) -> u16 {
+    match random.below(4) {
+        0 => random.between(0, 300),
+        1 => random.pick(&EDGES),
+        _ => random.between(0, 8),
+    }
+}
+
+fn number(random: &mut Random, known: &Known) -> u64 {
+    match random.below(6) {
+        0 => random.u64(),
+        1 | 2 => random.pick(&NUMBERS),
+        _ if known.numbers.is_empty() => 7,
+        _ => random.pick(&known.numbers),
+    }
+}
+
+fn bytes(random: &mut Random) -> Vec<u8> {
+    let most = if random.once_in(8) { SHARED_SIZE + 1 } else { 8 };
+    let count = match random.below(8) {
+        0 => random.pick(&[HEAP_SIZE - 1, HEAP_SIZE, HEAP_SIZE + 1]),
+        _ => random.index(most + 1),
+    };
+    random.bytes(count, 256)
+}
+
+/// A whole record spoilt in one way. A few of these are still records.
+pub fn malformed(random: &mut Random, known: &Known) -> Vec<u8> {
+    let mut record = whole(random, known);
+    match random.below(4) {
+        0 => record[0] ^= 1 << random.below(8),
+        1 => record[1] = random.byte(),
+        2 => record[0] = random.byte(),
+        _ => record.truncate(random.index(record.len())),
+    }
+    record
+}
+
+/// Bytes of no plan, half of them with a known kind in front.
+pub fn noise(random: &mut Random) -> Vec<u8> {
+    let count = random.index(41);
+    let mut noise = random.bytes(count, 256);
+    if random.once_in(2) && count >= 2 {
+        noise[0] = random.pick(&[0x01, 0x03, 0x07, 0x19, 0x1B, 0x2D, 0x3D, 0x49, 0x4B, 0x65]);
+        noise[1] = random.between(0, 14) as u8;
+    }
+    noise
+}
+
+/// Whole, whole with bytes behind it, malformed or noise.
+pub fn any(random: &mut Random, known: &Known) -> Vec<u8> {
+    match random.below(8) {
+        0 => noise(random),
+        1 | 2 => malformed(random, known),
+        3 => [whole(random, known), noise(random)].concat(),
+        _ => whole(random, known),
+    }
+}
+
+/// Sizes of an output buffer that isn't of its size.
+pub const WRONG_OUTPUT_SIZES: [usize; 7] = [0, 1, 256, 1_023, 1_025, 2_048, 4_096];
+
+/// Mostly the right size.
+pub fn output_size(random: &mut Random) -> usize {
+    if random.once_in(8) { random.pick(&WRONG_OUTPUT_SIZES) } else { OUTPUT_SIZE }
+}
+
+#[cfg(test)]
+mod tests {
+    use super::*;
+    use second::{Refusal, read};
+
+    /// Whole records read whole; the others meet each of the reader's refusals.
+    #[test]
+    fn records_are_what_they_are_called() {
+        let mut random = Random::new(1);
+        let known = Known::default();
+        let mut refused = Vec::new();
+        for _ in 0..2_000 {
+            let record = whole(&mut random, &known);
+            assert_eq!(read(&record).map(|(_, used)| used), Ok(record.len()));
+            refused.extend(read(&malformed(&mut random, &known)).err());
+            refused.extend(read(&noise(&mut random)).err());
+            refused.extend(read(&any(&mut random, &known)).err());
+        }
+        for refusal in [Refusal::Cut, Refusal::UnknownKind, Refusal::WrongMap] {
+            assert!(refused.contains(&refusal));
+        }
+    }
+
+    #[test]
+    fn output_sizes_vary() {
+        let mut random = Random::new(2);
+        let sizes: Vec<usize> = (0..1_000).map(|_| output_size(&mut random)).collect();
+        assert!(WRONG_OUTPUT_SIZES.iter().all(|size| sizes.contains(size)));
+        assert!(!WRONG_OUTPUT_SIZES.contains(&OUTPUT_SIZE));
+        assert!(sizes.iter().filter(|&&size| size == OUTPUT_SIZE).count() > 700);
+    }
+}

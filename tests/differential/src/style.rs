@@ -1,0 +1,104 @@
+//! The sorts of scripts that are played.
+
+/// What sort of script it becomes.
+#[derive(Clone, Copy)]
+pub(crate) struct Style {
+    /// Kinds of call while a service runs. One that stands twice comes twice as
+    /// often.
+    pub kinds: &'static [u8],
+    /// The shortest and the longest value.
+    pub values: (u16, u16),
+    /// How many values a heap byte takes. With few, pairs are logged again.
+    pub alphabet: u64,
+    /// How many draws there are, about 0. With few, handles collide.
+    pub draws: u64,
+    /// How many identities there are.
+    pub identities: usize,
+    /// One call in so many has any fields, and may be refused.
+    pub loose: u64,
+    /// At most so many calls.
+    pub calls: u16,
+}
+
+pub(crate) const STYLES: [Style; 8] = [
+    // Many short values: the rows run out.
+    Style {
+        kinds: &[5, 5, 6, 9, 9, 9, 9, 9, 10, 11, 11, 11, 11, 11, 12, 13, 3],
+        values: (0, 6),
+        alphabet: 256,
+        draws: 4,
+        identities: 3,
+        loose: 30,
+        calls: 500,
+    },
+    // Long values: the value bytes run out.
+    Style {
+        kinds: &[5, 5, 5, 5, 6, 9, 9, 9, 10, 11, 11, 11, 12, 12, 13, 3],
+        values: (200, 256),
+        alphabet: 256,
+        draws: 2,
+        identities: 3,
+        loose: 30,
+        calls: 160,
+    },
+    // Values of every length.
+    Style {
+        kinds: &[1, 3, 4, 5, 5, 6, 7, 8, 9, 9, 10, 10, 11, 11, 12, 12, 13],
+        values: (0, 256),
+        alphabet: 256,
+        draws: 1 << 48,
+        identities: 5,
+        loose: 15,
+        calls: 240,
+    },
+    // Tenants come and go.
+    Style {
+        kinds: &[1, 1, 3, 3, 4, 4, 5, 5, 6, 6, 9, 10, 11, 12, 13],
+        values: (0, 40),
+        alphabet: 256,
+        draws: 3,
+        identities: 8,
+        loose: 20,
+        calls: 300,
+    },
+    // The same few pairs and handles again and again.
+    Style {
+        kinds: &[1, 3, 5, 6, 9, 9, 9, 10, 10, 11, 11, 11, 12, 12, 13],
+        values: (0, 3),
+        alphabet: 2,
+        draws: 1,
+        identities: 2,
+        loose: 25,
+        calls: 300,
+    },
+    // Shared memory.
+    Style {
+        kinds: &[3, 5, 7, 7, 7, 8, 8, 8, 9, 11, 12],
+        values: (0, 256),
+        alphabet: 256,
+        draws: 8,
+        identities: 3,
+        loose: 10,
+        calls: 120,
+    },
+    // Values handed on and checked.
+    Style {
+        kinds: &[3, 3, 5, 6, 9, 10, 10, 10, 11, 11, 12, 12, 12, 12],
+        values: (0, 64),
+        alphabet: 16,
+        draws: 5,
+        identities: 4,
+        loose: 25,
+        calls: 300,
+    },
+    // Every second call is loose.
+    Style {
+        kinds: &[1, 3, 4, 5, 6, 7, 8, 9, 9, 10, 11, 11, 12, 13],
+        values: (0, 256),
+        alphabet: 8,
+        draws: 4,
+        identities: 3,
+        loose: 2,
+        calls: 200,
+    },
+];
