@@ -1,4 +1,5 @@
--- What one turn of each search adds, and what an escrow that is not full has. Assumes nothing.
+-- What one turn of each search adds, what an escrow that is not full has, and a value copied into its place.
+-- Assumes nothing.
 use Prim.Native.Nat.{ℕ, suc, _+_, _-_, _≤_, _<_}
 use mathlib.Core.Path.{_≡_, refl}
 use mathlib.Core.Bool.{true, false}

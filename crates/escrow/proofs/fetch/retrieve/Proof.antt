@@ -82,7 +82,9 @@ found k =
 past : (k : tie.After-known-told)
     → let x = k .before .before .before .before .before .before .before .before .before .before .before .before .args in
     (eqb (x .t1 .running) 16 ≡ false) × (eqb (x .source) 0 ≡ false)
-past k = (ne-eqb _ _ (k .before .before .before .before .before .before .before .before .before .if1 .left), ne-eqb _ _ (k .before .before .before .before .before .before .before .before .if2 .left))
+past k =
+    let tests = k .before .before .before .before .before .before .before .before in
+    (ne-eqb _ _ (tests .before .if1 .left), ne-eqb _ _ (tests .if2 .left))
 
 mul-entry : tie.Need-mul-entry
 mul-entry c = omega (arith, found c .within)

@@ -30,7 +30,7 @@ handle-of-requires : tie.Need-handle-of-requires Inv-loop μ-loop
 handle-of-requires c κs = c .before .loop .inv .1
 
 handle-in-requires : tie.Need-handle-in-requires Inv-loop μ-loop
-handle-in-requires c κs = c .before .before .before .pre .0
+handle-in-requires c κs = omega arith
 
 returns : tie.Need-returns Inv-loop μ-loop
 returns c =
@@ -40,7 +40,7 @@ returns c =
     let h = c .before .before .handle-of .ensures in
     let unused = sym (c .before .handle-in .ensures) ∙ not-true _ (c .if1 .taken) in
     λ values.
-    let free = free-here (l .k) (x .size) (l .d .0) (entriesOf escrowTable values rows) (c .before .before .before .loop-test .taken) in
+    let free = free-here (l .k) (x .size) (l .d .0) (entriesOf escrowTable values rows) (omega arith) in
     h ∙ sym (free (handle-entries values _ rows ∙ rw h at unused)) ∙ l .inv .2 values
 
 next-draw-requires : tie.Need-next-draw-requires Inv-loop μ-loop
@@ -63,7 +63,7 @@ loop-again c =
       omega arith,
       rw (c .next-draw .ensures) (next-small 1 (l .d .0) (l .inv .1)),
       λ values.
-          let later = free-later (l .k) (x .size) (l .d .0) (entriesOf escrowTable values rows) (c .before .before .before .before .loop-test .taken) in
+          let later = free-later (l .k) (x .size) (l .d .0) (entriesOf escrowTable values rows) (omega arith) in
           rw (c .next-draw .ensures) (sym (later (handle-entries values _ rows ∙ rw h at used)) ∙ l .inv .2 values),
     )
 
@@ -76,7 +76,7 @@ returns-2 c =
     let l = c .before .before .loop in
     λ values.
     let all = entriesOf escrowTable values (take (x .n) (x .rows)) in
-    c .handle-of2 .ensures ∙ sym (free-last (l .k) (x .size) (l .d .0) all (c .before .loop-test .left)) ∙ l .inv .2 values
+    c .handle-of2 .ensures ∙ sym (free-last (l .k) (x .size) (l .d .0) all (omega arith)) ∙ l .inv .2 values
 
 pub free-handle-spec : {M : Type 1} → statement M
 free-handle-spec =
