@@ -3,9 +3,9 @@ ghost use mathlib.Core.Path.{_≡_};
 ghost use mathlib.Core.List.{List};
 ghost use Prim.Native.Nat.{ℕ};
 ghost use lib.ListN.{length};
-ghost use Rattle.ideal.specs.declared.BoxRecord.{BoxRecord as Box};
-ghost use Rattle.state.specs.declared.LogTable.{LogTable as Log};
-ghost use Rattle.state.specs.declared.EscrowTable.{EscrowTable as Escrow};
+ghost use Rattle.ideal.specs.declared.BoxRecord.{BoxRecord};
+ghost use Rattle.state.specs.declared.LogTable.{LogTable};
+ghost use Rattle.state.specs.declared.EscrowTable.{EscrowTable};
 ghost use Rattle.ideal.specs.Soundness.{sizesRight, sound};
 ghost use Rattle.sound.specs.Parts.{tablesOf, Counted, Lent};
 
@@ -28,7 +28,7 @@ pub fn sizes_right(
     escrow_values: &[u8],
     output: &[u8],
 ) -> bool
-    ensures { λ r. ⌜ ((b : Box) (log : Log) (escrow : Escrow) → Counted b log escrow → r ≡ sizesRight (tablesOf b log escrow (now (heaps .entry)) (now (shared .entry)) (now («log_values» .entry)) (now («escrow_values» .entry))) (length (now (output .entry)))) ⌝ }
+    ensures { λ r. ⌜ ((b : BoxRecord) (log : LogTable) (escrow : EscrowTable) → Counted b log escrow → r ≡ sizesRight (tablesOf b log escrow (now (heaps .entry)) (now (shared .entry)) (now («log_values» .entry)) (now («escrow_values» .entry))) (length (now (output .entry)))) ⌝ }
 {
     if heaps.len() != 4096 {
         return false;
