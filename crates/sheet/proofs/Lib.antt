@@ -1,4 +1,5 @@
 pub mod Texts
 pub mod Readings
 pub mod Loops
+pub mod NextTurn
 pub mod Examples

@@ -2,3 +2,4 @@ pub mod Sheet
 pub mod Stored
 pub mod Turns
 pub mod Examples
+pub mod Next

@@ -1,0 +1,89 @@
+// One record of a script, run on the box, and its line.
+ghost use mathlib.Core.Path.{_≡_};
+ghost use Prim.Native.Nat.{_+_, _*_, _≤_};
+ghost use lib.ListN.{length, take};
+ghost use Rattle.sound.specs.Parts.{tablesOf};
+ghost use Rattle.sheet.specs.Sheet.{line};
+ghost use Rattle.sheet.specs.Stored.{AtFront};
+ghost use Rattle.sheet.specs.Turns.{turn};
+ghost use Rattle.sheet.specs.Next.{turnOf, TurnMade};
+use crate::is_last;
+use crate::write_line;
+use caif::Reply;
+use ideal::BoxRecord;
+use state::EscrowTable;
+use state::LogTable;
+
+// What a turn gives: the reply, how many bytes the line has, and whether it is the last.
+pub struct NextLine {
+    pub reply: Reply,
+    pub size: usize,
+    pub last: bool,
+}
+
+// The line of an answer whose shown bytes stand at the front of the output buffer.
+fn write_answer(
+    code: u8,
+    number: u64,
+    used: usize,
+    shown: u16,
+    output: &[u8],
+    out: &mut [u8],
+) -> usize
+    requires { ⌜ (shown ≤ length (now output)) × (65 + 2 * shown ≤ length (now out)) ⌝ }
+    ensures { λ r. ⌜
+        AtFront (line (record { code = code; number = number; used = used; shown = take shown (now (output .entry)) }))
+        (now (out .entry)) (now (out .exit)) r
+        ⌝ }
+{
+    let n = shown as usize;
+    write_line(code, number, used, &output[..n], out)
+}
+
+// The record at the front of rest, and its line at the front of out. A line has at most 2,113 bytes.
+pub fn next_line(
+    b: BoxRecord,
+    log: LogTable,
+    escrow: EscrowTable,
+    heaps: &mut [u8],
+    shared: &mut [u8],
+    log_values: &mut [u8],
+    escrow_values: &mut [u8],
+    output: &mut [u8],
+    rest: &[u8],
+    out: &mut [u8],
+) -> NextLine
+    requires { ⌜ (length (now output) ≡ 1024) × (2113 ≤ length (now out)) ⌝ }
+    ensures { λ r. ⌜
+        TurnMade
+        (turnOf r (now (heaps .exit)) (now (shared .exit)) (now («log_values» .exit)) (now («escrow_values» .exit)) (now (out .exit)))
+        (turn (tablesOf b log escrow (now (heaps .entry)) (now (shared .entry)) (now («log_values» .entry)) (now («escrow_values» .entry)))
+        (now (rest .entry)))
+        (now (out .entry)) (now (out .exit)) (r .size)
+        ⌝ }
+{
+    let reply = caif::call(
+        b,
+        log,
+        escrow,
+        heaps,
+        shared,
+        log_values,
+        escrow_values,
+        output,
+        rest,
+    );
+    let size = write_answer(
+        reply.code,
+        reply.number,
+        reply.used,
+        reply.shown,
+        output,
+        out,
+    );
+    NextLine {
+        reply,
+        size,
+        last: is_last(reply.code),
+    }
+}
