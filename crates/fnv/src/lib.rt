@@ -4,6 +4,7 @@ ghost use Prim.Native.Nat.{_*_, _%_, _^_};
 ghost use Rattle.fnv.specs.Fnv.{mixed, fnvFrom, fnv1a, little, tagOf};
 use std::num::wrapping_add_u64;
 
+#[repr(C)]
 pub struct Tag(pub u64);
 
 // The prime is 2^40 + 2^8 + 2^7 + 2^5 + 2^4 + 2 + 1. A shift drops what passes bit 63.

@@ -7,8 +7,10 @@ use fnv::Tag;
 pub use read::read_call;
 pub use write::write_call;
 
+#[repr(C)]
 pub struct Handle(pub u64);
 
+#[repr(C)]
 pub struct Draw(pub u64);
 
 // A bytes field: where it starts in the record, and how many bytes it has.
@@ -82,6 +84,7 @@ pub enum Reading {
 }
 
 // The numbers in a record's fields; 0 in a field that the map lacks.
+#[repr(C)]
 pub struct Fields {
     pub place: u8,
     pub identity: u64,

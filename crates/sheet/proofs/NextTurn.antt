@@ -8,7 +8,7 @@ use lib.Seq.{take-at}
 use Rattle.ideal.specs.Step.{Answer}
 use Rattle.ideal.specs.Tables.{Tables}
 use Rattle.ideal.specs.Box.{outputAfter}
-use Rattle.caif.specs.Entry.{EntryResult, resultOn, entryOn}
+use Rattle.calls.specs.Entry.{EntryResult, resultOn, entryOn}
 use Rattle.sheet.specs.Sheet.{line, lastCode, stops, called}
 use Rattle.sheet.specs.Stored.{AtFront}
 use Rattle.sheet.specs.Turns.{turn}

@@ -9,7 +9,7 @@ ghost use Rattle.sheet.specs.Turns.{turn};
 ghost use Rattle.sheet.specs.Next.{turnOf, TurnMade};
 use crate::is_last;
 use crate::write_line;
-use caif::Reply;
+use calls::Reply;
 use ideal::BoxRecord;
 use state::EscrowTable;
 use state::LogTable;
@@ -62,7 +62,7 @@ pub fn next_line(
         (now (out .entry)) (now (out .exit)) (r .size)
         ⌝ }
 {
-    let reply = caif::call(
+    let reply = calls::call(
         b,
         log,
         escrow,

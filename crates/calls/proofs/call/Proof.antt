@@ -1,9 +1,9 @@
 use mathlib.Core.Path.{sym, _∙_}
 use borrow.Author.Tests.{not-true, not-false}
-use Rattle.caif.proofs.Whole.{refused-entry, sound-entry, ready-sound}
+use Rattle.calls.proofs.Whole.{refused-entry, sound-entry, ready-sound}
 use borrow.Author.Needs.{needs}
-use Rattle.caif.proofs.call.Statement.{statement}
-use Rattle.caif.proofs.call.Tie as tie
+use Rattle.calls.proofs.call.Statement.{statement}
+use Rattle.calls.proofs.call.Tie as tie
 
 is-ready-requires : tie.Need-is-ready-requires
 is-ready-requires c κs = search needs

@@ -1,11 +1,11 @@
-use Rattle.caif.proofs.Whole.{whole-read, refused-read}
+use Rattle.calls.proofs.Whole.{whole-read, refused-read}
 use Rattle.ideal.specs.Step.{onReading}
 use Rattle.record.specs.Meaning.{Within, readingIn}
 use Rattle.record.specs.Read.{cut, unknown, wrongMap}
 use mathlib.Core.Path.{sym, _∙_}
 use borrow.Author.Needs.{needs}
-use Rattle.caif.proofs.call_sound.Statement.{statement}
-use Rattle.caif.proofs.call_sound.Tie as tie
+use Rattle.calls.proofs.call_sound.Statement.{statement}
+use Rattle.calls.proofs.call_sound.Tie as tie
 
 read-call-requires : tie.Need-read-call-requires
 read-call-requires c κs = search needs

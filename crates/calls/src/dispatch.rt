@@ -4,7 +4,7 @@ ghost use lib.ListN.{length};
 ghost use Rattle.record.specs.Meaning.{bytesIn, callIn, PartWithin, CallWithin};
 ghost use Rattle.ideal.specs.Layouts.{Sound};
 ghost use Rattle.sound.specs.Parts.{tablesOf};
-ghost use Rattle.caif.specs.Entry.{resultOf, carriedOn};
+ghost use Rattle.calls.specs.Entry.{resultOf, carriedOn};
 use crate::Reply;
 use crate::answers::reply_answer;
 use crate::answers::reply_box;

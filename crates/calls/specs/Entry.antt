@@ -9,7 +9,7 @@ use Rattle.ideal.specs.Tables.{Tables, stateOf}
 use Rattle.ideal.specs.Soundness.{sizesRight, sound}
 use Rattle.ideal.specs.Box.{Result, laid, callOn, outputAfter}
 use Rattle.sound.specs.Parts.{tablesOf}
-use Rattle.caif.specs.declared.Reply.{Reply}
+use Rattle.calls.specs.declared.Reply.{Reply}
 
 pub record EntryResult : Type 0 where
   -- the box record, the heaps, shared memory, the rows and the value bytes of the log and of the escrow

@@ -2,11 +2,11 @@ use mathlib.Core.Path.{sym, _∙_}
 use lib.ListN.{length-map}
 use borrow.Author.Tests.{not-true, not-false}
 use Rattle.sound.specs.Parts.{Counted}
-use Rattle.caif.specs.Entry.{readyOn}
-use Rattle.caif.proofs.Whole.{sizes-lent}
+use Rattle.calls.specs.Entry.{readyOn}
+use Rattle.calls.proofs.Whole.{sizes-lent}
 use borrow.Author.Needs.{needs}
-use Rattle.caif.proofs.is_ready.Statement.{statement}
-use Rattle.caif.proofs.is_ready.Tie as tie
+use Rattle.calls.proofs.is_ready.Statement.{statement}
+use Rattle.calls.proofs.is_ready.Tie as tie
 
 -- the arrays have their lengths by type
 counted : (c : tie.Start) → Counted (c .args .b) (c .args .log) (c .args .escrow)

@@ -31,7 +31,7 @@ use Rattle.log.specs.Narrow.{logOf, moreLog, attested, attestOn, checkOn}
 use Rattle.log.proofs.Bridge.{onLog, attest-step, check-step}
 use Rattle.escrow.specs.Narrow.{moreEscrow, protectUnless, protectOn, retrieveAnswer, retrieveHeaps}
 use Rattle.escrow.proofs.Bridge.{replaceEscrow, protect-step, retrieve-step}
-use Rattle.caif.specs.Entry.{EntryResult, resultOn, carriedOn}
+use Rattle.calls.specs.Entry.{EntryResult, resultOn, carriedOn}
 
 -- ---- what each kind leaves and answers
 

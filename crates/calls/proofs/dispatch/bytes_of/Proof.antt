@@ -2,8 +2,8 @@ use Rattle.record.specs.Meaning.{bytesIn, PartWithin}
 use native.Mathlib.Nat.{add-sub-cancel-left}
 use native.Mathlib.Omega.{arith}
 use borrow.Author.Needs.{needs}
-use Rattle.caif.proofs.dispatch.bytes_of.Statement.{statement}
-use Rattle.caif.proofs.dispatch.bytes_of.Tie as tie
+use Rattle.calls.proofs.dispatch.bytes_of.Statement.{statement}
+use Rattle.calls.proofs.dispatch.bytes_of.Tie as tie
 
 cast-end : tie.Need-cast-end
 cast-end c = search needs

@@ -19,7 +19,7 @@ use Rattle.ideal.specs.Layouts.{Sound}
 use Rattle.ideal.proofs.Bools.{and-left, and-right}
 use Rattle.ideal.proofs.Laid.{tables-state}
 use Rattle.sound.specs.Parts.{Lent}
-use Rattle.caif.specs.Entry.{EntryResult, resultOn, entryOn, readyOn, soundOn, carriedOn}
+use Rattle.calls.specs.Entry.{EntryResult, resultOn, entryOn, readyOn, soundOn, carriedOn}
 
 -- a refusal that comes before any call
 abbrev pub refusedOn : Tables → (code number : ℕ) → (output : List ℕ) → EntryResult

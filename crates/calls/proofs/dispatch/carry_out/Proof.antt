@@ -1,9 +1,9 @@
-use Rattle.caif.proofs.ByKind.{byKind, by-kind}
-use Rattle.caif.proofs.Ready.{ready}
+use Rattle.calls.proofs.ByKind.{byKind, by-kind}
+use Rattle.calls.proofs.Ready.{ready}
 use Rattle.record.specs.Meaning.{CallWithin}
 use borrow.Author.Needs.{needs}
-use Rattle.caif.proofs.dispatch.carry_out.Statement.{statement}
-use Rattle.caif.proofs.dispatch.carry_out.Tie as tie
+use Rattle.calls.proofs.dispatch.carry_out.Statement.{statement}
+use Rattle.calls.proofs.dispatch.carry_out.Tie as tie
 
 enum-known-called : tie.Need-enum-known-called
 enum-known-called c = search needs

@@ -7,7 +7,7 @@ use Rattle.state.specs.declared.Answer.{Answer}
 use Rattle.state.specs.declared.BoxAnswer.{BoxAnswer}
 use Rattle.state.specs.declared.LogAnswer.{LogAnswer}
 use Rattle.state.specs.declared.EscrowAnswer.{EscrowAnswer}
-use Rattle.caif.specs.declared.Reply.{Reply}
+use Rattle.calls.specs.declared.Reply.{Reply}
 
 abbrev pub replyAnswer : BoxRecord → LogTable → EscrowTable → Answer → (used : ℕ) → Reply
 replyAnswer b log escrow a used =

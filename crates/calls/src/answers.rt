@@ -1,6 +1,6 @@
 // Replies, from what the call on a part of the box answers.
 ghost use mathlib.Core.Path.{_≡_};
-ghost use Rattle.caif.specs.Replies.{replyRefusal, replyAnswer, replyBox, replyLog, replyEscrow};
+ghost use Rattle.calls.specs.Replies.{replyRefusal, replyAnswer, replyBox, replyLog, replyEscrow};
 use crate::Reply;
 use ideal::BoxRecord;
 use state::Answer;
