@@ -10,8 +10,8 @@ ghost use Rattle.calls.specs.Entry.{resultOf, readyOn, soundOn, entryOn}
 use answers::reply_refusal;
 use dispatch::carry_out;
 use ideal::BoxRecord;
+use reader::read_call;
 use record::Reading;
-use record::read_call;
 use sound::box_sound;
 use sound::sizes_right;
 use state::EscrowTable;

@@ -1,23 +1,18 @@
 -- Looking a number up in the table of kinds, past the rows that do not have it. Assumes nothing.
 use Prim.Native.Nat.{ℕ}
 use mathlib.Core.Path.{_≡_, refl, sym}
-use mathlib.Core.Bool.{Bool, true, false, cond}
 use mathlib.Core.List.{List, [], _∷_, _++_}
-use mathlib.Core.Option.{none, some}
+use mathlib.Core.Option.{none}
 use lib.Dec.{eqb}
-use lib.ListN.{take, drop}
 use borrow.Author.Tests.{ne-eqb}
-use Rattle.record.specs.declared.Fields.{Fields}
-use Rattle.record.specs.Call.{report}
-use Rattle.record.specs.Layout.{Kind, kind, kinds, among, kindOf}
-use Rattle.record.specs.Scan.{callOf}
+use Rattle.record.specs.Layout.{Kind, kinds, among, kindOf}
 
 -- N, and n is the number of no row: what is known past the arms of a `match`
 abbrev pub NoneOf : Type 0 → List Kind → ℕ → Type 0
 NoneOf N [] n = N
 NoneOf N (k ∷ ks) n = NoneOf (N × (n ≡ k .number → ⊥)) ks n
 
-past : {N : Type 0} (ks rest : List Kind) (n : ℕ) → NoneOf N ks n → N × (among (ks ++ rest) n ≡ among rest n)
+pub past : {N : Type 0} (ks rest : List Kind) (n : ℕ) → NoneOf N ks n → N × (among (ks ++ rest) n ≡ among rest n)
 unfolding among
 past [] rest n h = (h, refl)
 past (k ∷ ks) rest n h =
@@ -27,12 +22,3 @@ past (k ∷ ks) rest n h =
 pub no-kind : (N : Type 0) (n : ℕ) → NoneOf N kinds n → kindOf n ≡ none
 unfolding kindOf among kinds
 no-kind N n h = past kinds [] n h .1
-
--- past the first twelve rows there is at most a report
-pub report-last : (N : Type 0) (n : ℕ) (f : Fields) (v : List ℕ) → NoneOf N (take 12 kinds) n → callOf (kindOf n) f v ≡ report
-unfolding kindOf among kinds callOf
-report-last N n f v h = rw (past (take 12 kinds) (drop 12 kinds) n h .1) (last (eqb 13 n))
-  where
-    last : (b : Bool) → callOf (cond b (some (kind 13 0x01 (λ f v. report))) none) f v ≡ report
-    last true = refl
-    last false = refl

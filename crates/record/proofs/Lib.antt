@@ -1,9 +1,7 @@
 pub mod FieldLaws
-pub mod FirstBytes
 pub mod KindRows
 pub mod KindTable
 pub mod LittleEndian
-pub mod Positions
 pub mod RoundTrip
 pub mod Sizes
 pub mod Stores

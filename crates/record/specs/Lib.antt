@@ -4,5 +4,4 @@ pub mod Read
 pub mod Write
 pub mod Size
 pub mod Statements
-pub mod Scan
 pub mod Meaning

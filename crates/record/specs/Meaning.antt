@@ -10,11 +10,8 @@ use Rattle.record.specs.declared.Reading as found
 use Rattle.record.specs.declared.Reading.the-variants.{Whole, Cut, UnknownKind, WrongMap}
 use Rattle.record.specs.declared.LegalMap as legal
 use Rattle.record.specs.declared.LegalMap.the-variants.{Map, NoSuchKind}
-use Rattle.record.specs.declared.Written as wrote
-use Rattle.record.specs.declared.Written.the-variants.{Length, Unknown, NoRoom}
 use Rattle.record.specs.Call.{Call, create, start, yield, exit, heapWrite, heapRead, sharedWrite, sharedRead, attest, check, protect, retrieve, report}
 use Rattle.record.specs.Read.{Reading, whole, cut, unknown, wrongMap}
-use Rattle.record.specs.Write.{Outcome}
 
 -- the bytes of a bytes field
 unfoldable pub bytesIn : List ℕ → Part → List ℕ
@@ -70,17 +67,3 @@ Within bs WrongMap = Unit {0}
 unfoldable pub legalMap : legal.LegalMap → Option ℕ
 legalMap (Map m) = some m
 legalMap NoSuchKind = none
-
-unfoldable pub writtenCode : wrote.Written → ℕ
-writtenCode (Length n) = 0
-writtenCode Unknown = 2
-writtenCode NoRoom = 17
-
-unfoldable pub writtenLength : wrote.Written → ℕ
-writtenLength (Length n) = n
-writtenLength Unknown = 0
-writtenLength NoRoom = 0
-
--- the writer's answer, with what its buffer then holds
-unfoldable pub wroteOn : wrote.Written → List ℕ → Outcome
-wroteOn w buffer = record { code = writtenCode w; length = writtenLength w; buffer = buffer }

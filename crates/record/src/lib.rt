@@ -1,11 +1,9 @@
 // Call records: a map byte, then the fields whose bit stands, lowest byte first.
 mod kinds;
-mod read;
-mod write;
 
 use fnv::Tag;
-pub use read::read_call;
-pub use write::write_call;
+pub use kinds::has;
+pub use kinds::legal_map;
 
 #[repr(C)]
 pub struct Handle(pub u64);
@@ -97,14 +95,4 @@ pub struct Fields {
 pub enum LegalMap {
     Map(u8),
     NoSuchKind,
-}
-
-// What the writer answers.
-pub enum Written {
-    // The record's length.
-    Length(usize),
-    // There is no such kind.
-    Unknown,
-    // The buffer is shorter than the record, or the bytes are more than a count of 2 bytes can say.
-    NoRoom,
 }

@@ -1,0 +1,3 @@
+mod FirstBytes
+mod LastKind
+mod Positions

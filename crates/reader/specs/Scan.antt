@@ -1,0 +1,55 @@
+-- What the reader's parts find, by positions in the record.
+use Prim.Native.Nat.{ℕ, _+_, _-_, _≤_, _<_, _^_}
+use mathlib.Core.Bool.{Bool, true, false, cond}
+use mathlib.Core.List.{List}
+use mathlib.Core.Option.{Option, none, some}
+use lib.ListN.{length, take, drop}
+use lib.Dec.{ltb}
+use Rattle.reader.specs.declared.Taken as taken
+use Rattle.reader.specs.declared.Taken.the-variants.{Number, Cut}
+use Rattle.reader.specs.declared.Three as three
+use Rattle.reader.specs.declared.Three.the-variants.{Numbers, Cut as CutThree}
+use Rattle.record.specs.declared.Fields.{Fields}
+use Rattle.record.specs.Call.{Call, report}
+use Rattle.record.specs.Layout.{Kind, stands, kindOf}
+use Rattle.record.specs.Read.{Reading, whole, fromLittle, fields}
+
+-- a field of n bytes at a position: its number, 0 where its bit is down, and the position after it
+unfoldable pub takenAt : List ℕ → ℕ → Bool → ℕ → taken.Taken
+takenAt bs at false n = Number 0 at
+takenAt bs at true n = cond (ltb (length bs - at) n) Cut (Number (fromLittle (take n (drop at bs))) (at + n))
+
+-- the number fits n bytes, and the position lies within the record
+unfoldable pub TakenWithin : List ℕ → ℕ → taken.Taken → Type 0
+TakenWithin bs n (Number x at) = (x < 256 ^ n) × (at ≤ length bs)
+TakenWithin bs n Cut = Unit {0}
+
+-- and then what follows a field
+unfoldable pub after : taken.Taken → (ℕ → ℕ → three.Three) → three.Three
+after (Number x at) next = next x at
+after Cut next = CutThree
+
+-- three fields in a row, of n, 8 and 2 bytes, the first at the map's bit `bit`
+unfoldable pub threeAt : List ℕ → ℕ → ℕ → ℕ → ℕ → three.Three
+threeAt bs at map bit n =
+    after (takenAt bs at (stands map bit) n) λ x a.
+    after (takenAt bs a (stands map (bit + 1)) 8) λ y b.
+    after (takenAt bs b (stands map (bit + 2)) 2) λ z e. Numbers x y z e
+
+-- the first and the third number fit, and the position lies within the record
+unfoldable pub ThreeWithin : List ℕ → ℕ → three.Three → Type 0
+ThreeWithin bs n (Numbers x y z at) = (x < 256 ^ n) × (z < 256 ^ 2) × (at ≤ length bs)
+ThreeWithin bs n CutThree = Unit {0}
+
+-- a kind's call; a report where there is no such kind
+unfoldable pub callOf : Option Kind → Fields → List ℕ → Call
+callOf none f v = report
+callOf (some k) f v = k .call f v
+
+-- the reading of a record of `total` bytes and of this kind, once its fields are read
+unfoldable pub ended : ℕ → Option Kind → Fields → List ℕ → List ℕ → Reading
+ended total o f v rest = whole (callOf o f v) (total - length rest)
+
+-- the reading, from the fields on, of a record of kind n whose map is the kind's
+unfoldable pub fieldsIn : List ℕ → ℕ → ℕ → Reading
+fieldsIn bs map n = fields map (ended (length bs) (kindOf n)) (drop 2 bs)

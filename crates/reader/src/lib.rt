@@ -1,0 +1,199 @@
+// The reader of call records.
+ghost use mathlib.Core.Path.{_≡_};
+ghost use Prim.Native.Nat.{ℕ, _+_, _≤_, _<_, _^_};
+ghost use mathlib.Core.List.{List};
+ghost use lib.ListN.{length, take, drop};
+ghost use Rattle.record.specs.Layout.{kindOf};
+ghost use Rattle.record.specs.Read.{fromLittle, read};
+ghost use Rattle.record.specs.Meaning.{bytesIn, callIn, readingIn, PartWithin, CallWithin, Within};
+ghost use Rattle.reader.specs.Scan.{takenAt, TakenWithin, threeAt, ThreeWithin, callOf, fieldsIn};
+use fnv::Tag;
+use record::Call;
+use record::Draw;
+use record::Fields;
+use record::Handle;
+use record::LegalMap;
+use record::Part;
+use record::Reading;
+use record::has;
+use record::legal_map;
+
+// A field's number, 0 where its bit is down, and the position after it.
+enum Taken {
+    Number(u64, usize),
+    Cut,
+}
+
+// The numbers of three fields, and the position after them.
+enum Three {
+    Numbers(u64, u64, u64, usize),
+    Cut,
+}
+
+// A byte, with its bound, whatever the index it was read at.
+fn wide(x: u8) -> u64
+    ensures { λ r. ⌜ r ≡ x ⌝ }
+    ensures { λ r. ⌜ r < 256 ⌝ }
+{
+    x as u64
+}
+
+// The number of `width` bytes, lowest first. The highest is taken in first.
+fn number_at(bytes: &[u8], at: usize, width: usize) -> u64
+    requires { ⌜ at + width ≤ length (now bytes) ⌝ }
+    requires { ⌜ width ≤ 8 ⌝ }
+    ensures { λ r. ⌜ r ≡ fromLittle (take width (drop at (now (bytes .entry)))) ⌝ }
+    ensures { λ r. ⌜ r < 256 ^ width ⌝ }
+{
+    let mut x: u64 = 0;
+    let mut i = 0;
+    while i < width {
+        let j = width - 1 - i;
+        x = x * 256 + wide(bytes[at + j]);
+        i += 1;
+    }
+    x
+}
+
+// The field at a position, if its bit stands.
+fn field_at(bytes: &[u8], at: usize, here: bool, width: usize) -> Taken
+    requires { ⌜ at ≤ length (now bytes) ⌝ }
+    requires { ⌜ width ≤ 8 ⌝ }
+    ensures { λ r. ⌜ r ≡ takenAt (now (bytes .entry)) at here width ⌝ }
+    ensures { λ r. ⌜ TakenWithin (now (bytes .entry)) width r ⌝ }
+{
+    if !here {
+        return Taken::Number(0, at);
+    }
+    if bytes.len() - at < width {
+        return Taken::Cut;
+    }
+    Taken::Number(number_at(bytes, at, width), at + width)
+}
+
+// Three fields in a row, the first of which has the bit `bit`: they have `width`, 8 and 2 bytes.
+fn three_at(bytes: &[u8], at: usize, map: u8, bit: u8, width: usize) -> Three
+    requires { ⌜ at ≤ length (now bytes) ⌝ }
+    requires { ⌜ bit < 6 ⌝ }
+    requires { ⌜ width ≤ 8 ⌝ }
+    ensures { λ r. ⌜ r ≡ threeAt (now (bytes .entry)) at map bit width ⌝ }
+    ensures { λ r. ⌜ ThreeWithin (now (bytes .entry)) width r ⌝ }
+{
+    let Taken::Number(first, a) = field_at(bytes, at, has(map, bit), width) else {
+        return Three::Cut;
+    };
+    let Taken::Number(second, b) = field_at(bytes, a, has(map, bit + 1), 8) else {
+        return Three::Cut;
+    };
+    let Taken::Number(third, next) = field_at(bytes, b, has(map, bit + 2), 2) else {
+        return Three::Cut;
+    };
+    Three::Numbers(first, second, third, next)
+}
+
+// The call of a kind. The reader asks it of kinds of the table alone; for any other number it is a report.
+fn call_of(kind: u8, f: Fields, bytes: Part) -> Call
+    ensures { λ r. ⌜ ((bs : List ℕ) → callIn bs r ≡ callOf (kindOf kind) f (bytesIn bs bytes)) ⌝ }
+    ensures { λ r. ⌜ ((bs : List ℕ) → PartWithin bs bytes → CallWithin bs r) ⌝ }
+{
+    let place = f.place;
+    let identity = f.identity;
+    let offset = f.offset;
+    let length = f.length;
+    let number = f.number;
+    match kind {
+        1 => Call::Create { place, identity },
+        2 => Call::Start { place },
+        3 => Call::Yield,
+        4 => Call::Exit,
+        5 => Call::HeapWrite {
+            place,
+            offset,
+            bytes,
+        },
+        6 => Call::HeapRead {
+            place,
+            offset,
+            length,
+        },
+        7 => Call::SharedWrite { offset, bytes },
+        8 => Call::SharedRead { offset, length },
+        9 => Call::Attest { offset, length },
+        10 => Call::Check {
+            identity,
+            tag: Tag(number),
+            bytes,
+        },
+        11 => Call::Protect {
+            identity,
+            offset,
+            length,
+            draw: Draw(number),
+        },
+        12 => Call::Retrieve {
+            identity,
+            offset,
+            handle: Handle(number),
+        },
+        _ => Call::Report,
+    }
+}
+
+// The fields of a record whose map is its kind's.
+fn read_fields(bytes: &[u8], kind: u8, map: u8) -> Reading
+    requires { ⌜ 2 ≤ length (now bytes) ⌝ }
+    ensures { λ r. ⌜ readingIn (now (bytes .entry)) r ≡ fieldsIn (now (bytes .entry)) map kind ⌝ }
+    ensures { λ r. ⌜ Within (now (bytes .entry)) r ⌝ }
+{
+    let Three::Numbers(place, identity, offset, at) = three_at(bytes, 2, map, 1, 1) else {
+        return Reading::Cut;
+    };
+    let Three::Numbers(size, number, count, start) = three_at(bytes, at, map, 4, 2) else {
+        return Reading::Cut;
+    };
+    let n = count as usize;
+    if bytes.len() - start < n {
+        return Reading::Cut;
+    }
+    let f = Fields {
+        place: place as u8,
+        identity,
+        offset: offset as u16,
+        length: size as u16,
+        number,
+    };
+    let part = Part {
+        start,
+        count: count as u16,
+    };
+    let end = start + n;
+    Reading::Whole {
+        call: call_of(kind, f, part),
+        used: end,
+    }
+}
+
+// Refusals in the order: empty, bit 0 down, no kind byte, no such kind, another map, a field cut.
+pub fn read_call(bytes: &[u8]) -> Reading
+    ensures { λ r. ⌜ readingIn (now (bytes .entry)) r ≡ read (now (bytes .entry)) ⌝ }
+    ensures { λ r. ⌜ Within (now (bytes .entry)) r ⌝ }
+{
+    if bytes.len() == 0 {
+        return Reading::Cut;
+    }
+    let map = bytes[0];
+    if !has(map, 0) {
+        return Reading::UnknownKind;
+    }
+    if bytes.len() == 1 {
+        return Reading::Cut;
+    }
+    let kind = bytes[1];
+    let LegalMap::Map(legal) = legal_map(kind) else {
+        return Reading::UnknownKind;
+    };
+    if legal != map {
+        return Reading::WrongMap;
+    }
+    read_fields(bytes, kind, map)
+}
