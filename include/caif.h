@@ -1,0 +1,159 @@
+/* The reference box, for hosts in C. Link libcaif.a, which `rt staticlib caif` proves and writes to
+ * target/staticlib/ (x86-64).
+ *
+ * A host holds a box record, which goes in and comes back by value, and the tables and buffers that it lends for
+ * each call. Whatever they hold, and however long they are, caif_call returns: a buffer that is not of its size, or
+ * a box that is not sound, gets code 15, and a refusal alters nothing.
+ *
+ * What a host owes, because no program can test it: each pointer leads to as many elements as the count after it
+ * says, is not null even where that count is 0, and is aligned for its type; no two lent buffers overlap; nobody
+ * else reads or writes them during a call.
+ */
+#ifndef CAIF_H
+#define CAIF_H
+
+#include <stddef.h>
+#include <stdint.h>
+
+#ifdef __cplusplus
+extern "C" {
+#endif
+
+/* Sizes: byte buffers in bytes, tables in rows. */
+#define CAIF_PLACES 16          /* places, 0 to 15 */
+#define CAIF_NONE 16            /* the running place where none runs */
+#define CAIF_HEAP 256           /* the heap of one place */
+#define CAIF_HEAPS 4096         /* all heaps: place p has the 256 bytes from 256 * p */
+#define CAIF_SHARED 1024        /* shared memory */
+#define CAIF_LOG_ROWS 64        /* the log */
+#define CAIF_LOG_VALUES 4096    /* the log's value bytes */
+#define CAIF_ESCROW_ROWS 64     /* the escrow */
+#define CAIF_ESCROW_VALUES 4096 /* the escrow's value bytes */
+#define CAIF_OUTPUT 1024        /* the output buffer */
+#define CAIF_VALUE 256          /* the longest value */
+#define CAIF_RECORD 65555       /* the longest record: a check of 65,535 bytes */
+#define CAIF_DRAWS 281474976710656 /* a draw is below this, 2^48; a handle is length * 2^48 + draw */
+
+/* Kinds of calls. After each, the fields of its record, in the record's order. */
+enum caif_kind {
+    CAIF_CREATE = 1,       /* place, identity */
+    CAIF_START = 2,        /* place */
+    CAIF_YIELD = 3,        /* none */
+    CAIF_EXIT = 4,         /* none */
+    CAIF_HEAP_WRITE = 5,   /* place, offset, bytes */
+    CAIF_HEAP_READ = 6,    /* place, offset, length */
+    CAIF_SHARED_WRITE = 7, /* offset, bytes */
+    CAIF_SHARED_READ = 8,  /* offset, length */
+    CAIF_ATTEST = 9,       /* offset, length; answers the tag */
+    CAIF_CHECK = 10,       /* identity, number (the tag), bytes; answers 1 or 0 */
+    CAIF_PROTECT = 11,     /* identity (the recipient), offset, length, number (the draw); answers the handle */
+    CAIF_RETRIEVE = 12,    /* identity (the source), offset, number (the handle); answers the length */
+    CAIF_REPORT = 13       /* none; answers services + 256 * log rows + 65,536 * escrow rows */
+};
+
+/* Codes. A refusal has number 0, shows nothing and alters nothing. Where conditions of several hold, the order is
+ * 15; then those of the reader (1, 2, 3); then rising numbers. */
+enum caif_code {
+    CAIF_ACCEPTED = 0,
+    CAIF_CUT = 1,            /* the record ends before a field does, or is empty */
+    CAIF_UNKNOWN_KIND = 2,   /* the record has no kind, or one that is not of the thirteen */
+    CAIF_WRONG_MAP = 3,      /* the map is not the kind's */
+    CAIF_NONE_RUNS = 4,      /* yield, exit, heap write, heap read, attest, protect, retrieve */
+    CAIF_ONE_RUNS = 5,       /* start */
+    CAIF_NO_PLACE = 6,       /* place above 15: create, start, heap write, heap read */
+    CAIF_PLACE_STATE = 7,    /* place taken (create) or empty (start) */
+    CAIF_NOT_RUNNING = 8,    /* the place is not the running one: heap write, heap read */
+    CAIF_IDENTITY_ZERO = 9,  /* create, check, protect, retrieve */
+    CAIF_NO_ROW = 10,        /* no such escrow row: retrieve */
+    CAIF_BEYOND = 11,        /* offset + length is beyond 256 (heap) or 1,024 (shared) */
+    CAIF_DRAW = 12,          /* draw of 2^48 or more: protect */
+    CAIF_LOG_FULL = 13,      /* the pair is not yet logged, and rows or value bytes are lacking: attest */
+    CAIF_ESCROW_FULL = 14,   /* rows or value bytes are lacking: protect */
+    CAIF_NOT_SOUND = 15,     /* a lent buffer is not of its size, or the box is not sound */
+    CAIF_TOO_LONG = 16,      /* a script of more than 65,536 bytes: the program boxrun alone gives it */
+    CAIF_NO_ROOM = 17        /* the writer's buffer is shorter than the record, or its bytes are over 65,535 */
+};
+
+/* The used rows and value bytes of a table. 4 bytes. */
+struct caif_used {
+    uint16_t rows;
+    uint16_t bytes;
+};
+
+/* The box record. 144 bytes. */
+struct caif_box {
+    uint16_t taken;                    /* bit p stands when place p is taken */
+    uint8_t running;                   /* 0 to 15, or CAIF_NONE */
+    uint64_t identities[CAIF_PLACES];  /* 0 in empty places */
+    struct caif_used log;
+    struct caif_used escrow;
+};
+
+/* A row of the log: that identity logged length bytes, from first on in the log's values. 24 bytes. */
+struct caif_log_row {
+    uint64_t identity;
+    uint64_t tag;
+    uint16_t first;
+    uint16_t length;
+};
+
+/* A row of the escrow: source protected length bytes for recipient, from first on in the escrow's values. 32 bytes. */
+struct caif_escrow_row {
+    uint64_t source;
+    uint64_t recipient;
+    uint64_t handle;
+    uint16_t first;
+    uint16_t length;
+};
+
+/* An answer, with the box record as the call leaves it. 176 bytes. */
+struct caif_reply {
+    struct caif_box held;
+    uint8_t code;    /* enum caif_code */
+    uint64_t number;
+    size_t used;     /* bytes of the record; 0 with codes 1, 2, 3 and 15 */
+    uint16_t shown;  /* how many bytes stand at the front of the output buffer */
+};
+
+/* The numbers of a record's fields; those that the kind does not have are passed over. 32 bytes. */
+struct caif_fields {
+    uint8_t place;
+    uint64_t identity;
+    uint16_t offset;
+    uint16_t length;
+    uint64_t number;  /* a tag, a handle or a draw */
+};
+
+/* What the writer answers. 16 bytes. */
+struct caif_written {
+    uint8_t code;   /* 0, CAIF_UNKNOWN_KIND or CAIF_NO_ROOM */
+    size_t length;  /* of the record; 0 with a refusal */
+};
+
+/* The box record of a fresh box. The lent tables and buffers of a fresh box are all zeros. */
+struct caif_box caif_fresh(void);
+
+/* One call: the record that stands at the front of bytes, on the box that is handed in. The log's and the escrow's
+ * rows and values, heaps, shared and output are lent; a call adds at most one row. What the output buffer holds
+ * beyond the bytes shown is unaltered. */
+struct caif_reply caif_call(struct caif_box held,
+                            struct caif_log_row *log, size_t log_rows,
+                            struct caif_escrow_row *escrow, size_t escrow_rows,
+                            uint8_t *heaps, size_t heaps_size,
+                            uint8_t *shared, size_t shared_size,
+                            uint8_t *log_values, size_t log_values_size,
+                            uint8_t *escrow_values, size_t escrow_values_size,
+                            uint8_t *output, size_t output_size,
+                            const uint8_t *bytes, size_t bytes_size);
+
+/* The record of a call, at the front of out, which may be of any size; bytes of out beyond the record are
+ * unaltered, and with a refusal all of them. */
+struct caif_written caif_write(uint8_t kind, struct caif_fields fields,
+                               const uint8_t *bytes, size_t bytes_size,
+                               uint8_t *out, size_t out_size);
+
+#ifdef __cplusplus
+}
+#endif
+
+#endif
