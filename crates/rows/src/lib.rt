@@ -53,6 +53,25 @@ pub fn copy_log(rows: &[LogRow]) -> LogTable
     table
 }
 
+fn log_row_of(table: LogTable, i: usize) -> LogRow
+    requires { ⌜ i < 64 ⌝ }
+    ensures { λ r. ⌜ r ≡ getD (table .rows) i (logTable .blank) ⌝ }
+{
+    let rows = table.rows;
+    rows[i]
+}
+
+pub fn store_log(rows: &mut [LogRow], table: LogTable)
+    requires { ⌜ length (now rows) ≡ 64 ⌝ }
+    ensures { λ _. ⌜ now (rows .exit) ≡ table .rows ⌝ }
+{
+    let mut i = 0;
+    while i < 64 {
+        put_log_row(rows, i, log_row_of(table, i));
+        i = i + 1;
+    }
+}
+
 pub fn escrow_row_at(rows: &[EscrowRow], i: usize) -> EscrowRow
     requires { ⌜ i < length (now rows) ⌝ }
     ensures { λ r. ⌜ r ≡ getD (now (rows .entry)) i (escrowTable .blank) ⌝ }
@@ -93,4 +112,23 @@ pub fn copy_escrow(rows: &[EscrowRow]) -> EscrowTable
         i = i + 1;
     }
     table
+}
+
+fn escrow_row_of(table: EscrowTable, i: usize) -> EscrowRow
+    requires { ⌜ i < 64 ⌝ }
+    ensures { λ r. ⌜ r ≡ getD (table .rows) i (escrowTable .blank) ⌝ }
+{
+    let rows = table.rows;
+    rows[i]
+}
+
+pub fn store_escrow(rows: &mut [EscrowRow], table: EscrowTable)
+    requires { ⌜ length (now rows) ≡ 64 ⌝ }
+    ensures { λ _. ⌜ now (rows .exit) ≡ table .rows ⌝ }
+{
+    let mut i = 0;
+    while i < 64 {
+        put_escrow_row(rows, i, escrow_row_of(table, i));
+        i = i + 1;
+    }
 }
