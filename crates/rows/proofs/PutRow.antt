@@ -56,7 +56,10 @@ module _ (k : Kind) where
 
   abbrev pub function : Fn
   function = record {
-    lifetimes = 1; outlives = []; params = 3; body = body;
+    lifetimes = 1;
+    outlives = [];
+    params = 3;
+    body = body;
     locals = local tyUnit valueLocal ∷ local (sliceTy (tyRef (named 0) mut (ref k))) valueLocal ∷ local (tyInt w64) valueLocal ∷ local (byVal k) valueLocal ∷ local (tyInt w64) valueLocal ∷ local tyPtr valueLocal ∷ [];
   }
 

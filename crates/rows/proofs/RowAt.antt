@@ -54,7 +54,10 @@ module _ (k : Kind) (d : k .type .D) where
 
   abbrev pub function : Fn
   function = record {
-    lifetimes = 1; outlives = []; params = 2; body = body;
+    lifetimes = 1;
+    outlives = [];
+    params = 2;
+    body = body;
     locals = local (byVal k) valueLocal ∷ local (sliceTy (tyRef (named 0) imm (ref k))) valueLocal ∷ local (tyInt w64) valueLocal ∷ local (tyInt w64) valueLocal ∷ local tyPtr valueLocal ∷ local (byVal k) valueLocal ∷ [];
   }
 

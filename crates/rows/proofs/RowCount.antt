@@ -47,7 +47,10 @@ module _ (k : Kind) where
 
   abbrev function : Fn
   function = record {
-    lifetimes = 1; outlives = []; params = 1; body = seq (assign (place 0 []) (rvOpd (copy (place 1 (field 1 ∷ []))))) return;
+    lifetimes = 1;
+    outlives = [];
+    params = 1;
+    body = seq (assign (place 0 []) (rvOpd (copy (place 1 (field 1 ∷ []))))) return;
     locals = local (tyInt w64) valueLocal ∷ local (sliceTy (tyRef (named 0) imm (ref k))) valueLocal ∷ [];
   }
 
