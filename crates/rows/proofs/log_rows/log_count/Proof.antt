@@ -1,14 +1,14 @@
--- `rows::log_count` meets its contract: it is `RowCount.antt`'s walk at rows of the log.
+-- `rows::log_rows::log_count` meets its contract: it is `RowCount.antt`'s walk at rows of the log.
 -- Assumes nothing.
 use contract.Running.{givenOf, tables, tablesOf}
 use denote.Triple.Spec.{tripleOf}
 use denote.Triple.Table.{entered}
 use Rattle.rows.proofs.Held.{log-row}
 use Rattle.rows.proofs.RowCount.{row-count-meets}
-use Rattle.rows.proofs.log_count.Key.{name}
-use Rattle.rows.proofs.log_count as self
-use Rattle.rows.proofs.log_count.Statement as stated
-use Rattle.rows.proofs.log_count.Code as code
+use Rattle.rows.proofs.log_rows.log_count.Key.{name}
+use Rattle.rows.proofs.log_rows.log_count as self
+use Rattle.rows.proofs.log_rows.log_count.Statement as stated
+use Rattle.rows.proofs.log_rows.log_count.Code as code
 
 pub log-count-spec : {M : Type 1} → stated.statement M
 unfolding code.routine tablesOf

@@ -1,14 +1,14 @@
--- `rows::put_escrow_row` meets its contract: it is `PutRow.antt`'s walk at a row of the escrow.
+-- `rows::escrow_rows::put_escrow_row` meets its contract: it is `PutRow.antt`'s walk at a row of the escrow.
 -- Assumes nothing.
 use contract.Running.{givenOf, tables, tablesOf}
 use denote.Triple.Spec.{tripleOf}
 use denote.Triple.Table.{entered}
 use Rattle.rows.proofs.Held.{escrow-row}
 use Rattle.rows.proofs.PutRow.{put-row-meets}
-use Rattle.rows.proofs.put_escrow_row.Key.{name}
-use Rattle.rows.proofs.put_escrow_row as self
-use Rattle.rows.proofs.put_escrow_row.Statement as stated
-use Rattle.rows.proofs.put_escrow_row.Code as code
+use Rattle.rows.proofs.escrow_rows.put_escrow_row.Key.{name}
+use Rattle.rows.proofs.escrow_rows.put_escrow_row as self
+use Rattle.rows.proofs.escrow_rows.put_escrow_row.Statement as stated
+use Rattle.rows.proofs.escrow_rows.put_escrow_row.Code as code
 
 pub put-escrow-row-spec : {M : Type 1} → stated.statement M
 unfolding code.routine tablesOf

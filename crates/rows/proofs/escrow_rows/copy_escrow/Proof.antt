@@ -1,4 +1,4 @@
--- `rows::copy_escrow` meets its contract: it is `CopyRows.antt`'s walk at rows of the escrow.
+-- `rows::escrow_rows::copy_escrow` meets its contract: it is `CopyRows.antt`'s walk at rows of the escrow.
 -- Assumes nothing.
 use mathlib.Core.Path.{_≡_, refl}
 use lib.ListN.{length}
@@ -12,16 +12,16 @@ use Rattle.rows.proofs.CopyRows.{copy-rows-meets}
 use Rattle.state.proofs.fresh_escrow as fresh
 use Rattle.state.proofs.fresh_escrow.Symbol as fresh-def
 use Rattle.state.proofs.fresh_escrow.Met as fresh-thm
-use Rattle.rows.proofs.escrow_row_at as row-at
-use Rattle.rows.proofs.escrow_row_at.Symbol as row-at-def
-use Rattle.rows.proofs.escrow_row_at.Met as row-at-thm
-use Rattle.rows.proofs.escrow_placed as placed
-use Rattle.rows.proofs.escrow_placed.Symbol as placed-def
-use Rattle.rows.proofs.escrow_placed.Met as placed-thm
-use Rattle.rows.proofs.copy_escrow.Key.{name}
-use Rattle.rows.proofs.copy_escrow as self
-use Rattle.rows.proofs.copy_escrow.Statement as stated
-use Rattle.rows.proofs.copy_escrow.Code as code
+use Rattle.rows.proofs.escrow_rows.escrow_row_at as row-at
+use Rattle.rows.proofs.escrow_rows.escrow_row_at.Symbol as row-at-def
+use Rattle.rows.proofs.escrow_rows.escrow_row_at.Met as row-at-thm
+use Rattle.rows.proofs.escrow_rows.escrow_placed as placed
+use Rattle.rows.proofs.escrow_rows.escrow_placed.Symbol as placed-def
+use Rattle.rows.proofs.escrow_rows.escrow_placed.Met as placed-thm
+use Rattle.rows.proofs.escrow_rows.copy_escrow.Key.{name}
+use Rattle.rows.proofs.escrow_rows.copy_escrow as self
+use Rattle.rows.proofs.escrow_rows.copy_escrow.Statement as stated
+use Rattle.rows.proofs.escrow_rows.copy_escrow.Code as code
 
 fresh-length : length (freshTables .escrowRows) ≡ 64
 unfolding freshTables
@@ -35,5 +35,5 @@ copy-escrow-spec 𝓤 H 𝓜 𝓖 𝓡 =
     (copy-rows-meets escrow-row (escrowTable .blank) escrow-table (λ (t : EscrowTable). t .rows) (freshTables .escrowRows) fresh-length fresh-def.name row-at-def.name placed-def.name
     𝓤 H (𝓖 .A) (givenOf 𝓤 H 𝓜 𝓖) (tablesOf 𝓤 H 𝓜 (tables 𝓤 H 𝓜 𝓡 code.env))
     (cited 𝓤 H (tripleOf 𝓤 H (𝓖 .A) fresh.signature (fresh.spec 𝓤 H (𝓖 .A) (𝓜 .mem) (𝓡 .run))) 𝓜 𝓡 code.env fresh-def.name fresh-def.routine code.calls-state·fresh-escrow (fresh-thm.met 𝓤 H 𝓜 𝓖 𝓡))
-    (cited 𝓤 H (tripleOf 𝓤 H (𝓖 .A) row-at.signature (row-at.spec 𝓤 H (𝓖 .A) (𝓜 .mem) (𝓡 .run))) 𝓜 𝓡 code.env row-at-def.name row-at-def.routine code.calls-rows·escrow-row-at (row-at-thm.met 𝓤 H 𝓜 𝓖 𝓡))
-    (cited 𝓤 H (tripleOf 𝓤 H (𝓖 .A) placed.signature (placed.spec 𝓤 H (𝓖 .A) (𝓜 .mem) (𝓡 .run))) 𝓜 𝓡 code.env placed-def.name placed-def.routine code.calls-rows·escrow-placed (placed-thm.met 𝓤 H 𝓜 𝓖 𝓡)))
+    (cited 𝓤 H (tripleOf 𝓤 H (𝓖 .A) row-at.signature (row-at.spec 𝓤 H (𝓖 .A) (𝓜 .mem) (𝓡 .run))) 𝓜 𝓡 code.env row-at-def.name row-at-def.routine code.calls-rows·escrow-rows·escrow-row-at (row-at-thm.met 𝓤 H 𝓜 𝓖 𝓡))
+    (cited 𝓤 H (tripleOf 𝓤 H (𝓖 .A) placed.signature (placed.spec 𝓤 H (𝓖 .A) (𝓜 .mem) (𝓡 .run))) 𝓜 𝓡 code.env placed-def.name placed-def.routine code.calls-rows·escrow-rows·escrow-placed (placed-thm.met 𝓤 H 𝓜 𝓖 𝓡)))

@@ -1,4 +1,4 @@
--- `rows::log_row_at` meets its contract: it is `RowAt.antt`'s walk at a row of the log.
+-- `rows::log_rows::log_row_at` meets its contract: it is `RowAt.antt`'s walk at a row of the log.
 -- Assumes nothing.
 use contract.Running.{givenOf, tables, tablesOf}
 use denote.Triple.Spec.{tripleOf}
@@ -6,10 +6,10 @@ use denote.Triple.Table.{entered}
 use Rattle.ideal.specs.Tables.{logTable}
 use Rattle.rows.proofs.Held.{log-row}
 use Rattle.rows.proofs.RowAt.{row-at-meets}
-use Rattle.rows.proofs.log_row_at.Key.{name}
-use Rattle.rows.proofs.log_row_at as self
-use Rattle.rows.proofs.log_row_at.Statement as stated
-use Rattle.rows.proofs.log_row_at.Code as code
+use Rattle.rows.proofs.log_rows.log_row_at.Key.{name}
+use Rattle.rows.proofs.log_rows.log_row_at as self
+use Rattle.rows.proofs.log_rows.log_row_at.Statement as stated
+use Rattle.rows.proofs.log_rows.log_row_at.Code as code
 
 pub log-row-at-spec : {M : Type 1} → stated.statement M
 unfolding code.routine tablesOf

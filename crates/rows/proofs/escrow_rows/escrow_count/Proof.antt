@@ -1,14 +1,14 @@
--- `rows::escrow_count` meets its contract: it is `RowCount.antt`'s walk at rows of the escrow.
+-- `rows::escrow_rows::escrow_count` meets its contract: it is `RowCount.antt`'s walk at rows of the escrow.
 -- Assumes nothing.
 use contract.Running.{givenOf, tables, tablesOf}
 use denote.Triple.Spec.{tripleOf}
 use denote.Triple.Table.{entered}
 use Rattle.rows.proofs.Held.{escrow-row}
 use Rattle.rows.proofs.RowCount.{row-count-meets}
-use Rattle.rows.proofs.escrow_count.Key.{name}
-use Rattle.rows.proofs.escrow_count as self
-use Rattle.rows.proofs.escrow_count.Statement as stated
-use Rattle.rows.proofs.escrow_count.Code as code
+use Rattle.rows.proofs.escrow_rows.escrow_count.Key.{name}
+use Rattle.rows.proofs.escrow_rows.escrow_count as self
+use Rattle.rows.proofs.escrow_rows.escrow_count.Statement as stated
+use Rattle.rows.proofs.escrow_rows.escrow_count.Code as code
 
 pub escrow-count-spec : {M : Type 1} → stated.statement M
 unfolding code.routine tablesOf

@@ -1,14 +1,14 @@
--- `rows::put_log_row` meets its contract: it is `PutRow.antt`'s walk at a row of the log.
+-- `rows::log_rows::put_log_row` meets its contract: it is `PutRow.antt`'s walk at a row of the log.
 -- Assumes nothing.
 use contract.Running.{givenOf, tables, tablesOf}
 use denote.Triple.Spec.{tripleOf}
 use denote.Triple.Table.{entered}
 use Rattle.rows.proofs.Held.{log-row}
 use Rattle.rows.proofs.PutRow.{put-row-meets}
-use Rattle.rows.proofs.put_log_row.Key.{name}
-use Rattle.rows.proofs.put_log_row as self
-use Rattle.rows.proofs.put_log_row.Statement as stated
-use Rattle.rows.proofs.put_log_row.Code as code
+use Rattle.rows.proofs.log_rows.put_log_row.Key.{name}
+use Rattle.rows.proofs.log_rows.put_log_row as self
+use Rattle.rows.proofs.log_rows.put_log_row.Statement as stated
+use Rattle.rows.proofs.log_rows.put_log_row.Code as code
 
 pub put-log-row-spec : {M : Type 1} → stated.statement M
 unfolding code.routine tablesOf
