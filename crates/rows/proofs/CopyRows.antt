@@ -21,6 +21,7 @@ use base.Fml.{Lft, Share, Fml, ftrue, fat, froom, fdies, flft}
 use prog.Wp.{Heap, Out, Env, afterSeq, afterBlock, afterTurn, Calls, Loops, Wp, atReturn, WpFn, Tables}
 use ghost.Atoms.{Atoms, sem}
 use contract.Monad.{fact}
+use contract.Lifetimes.{Lfts}
 use types.Kit.{Given, Item, ‵, raw, _⊛_, some, later, ⋆, runs, anyQ, atRet, Sq, _$_, _∵_, !, qed, by, move, keep, drop, use0, use1, use2, split, join, pick, await, rewrite, fsplit, fjoin, suffices, frame, done}
 use types.Run.{look, store, init, forget, stop, from, load, lit, no-more, and-then, of-opd, bin, assigns, assigns-last, land, first, blocks, stays, leaves-loop, returns, enter, alloc1, alloc0, params1, pass1, pass0, free1, free0, exec, Below, again, loops}
 use sound.WpLaws.{FmC, fmOf, WpFn-mono}
@@ -33,12 +34,13 @@ use denote.Slice.{sliceTy, sliceVal, ShrSlice, slice-vals, shr-slice-tells, shr-
 use denote.Signature.{Signature, plain}
 use denote.Steps.{nothing, owned, peeks, heard, only}
 use denote.Triple.Call.{calls-at}
-use denote.Triple.Clauses.{Ended, Clauses, closing, ensured, lasts}
-use denote.Triple.Entry.{onEntry}
+use denote.Triple.Clauses.{Ended, Clauses, AtExit, closing, ensured, lasts}
+use denote.Triple.Entry.{Args, Res, onEntry}
 use denote.Triple.Spec.{Meets, tripleOf}
 use denote.Triple.Statement.{Contract, Triple}
 use denote.Triple.Walked.{says, needs, Stays, stay-none-slice, walkOf, goes-none-slice, Walks, ends-at, walked, walk-meets}
 use denote.Exit.{yes}
+use Rattle.rows.proofs.Says.{Ensures, asking, saying, Tells, says-so}
 use Rattle.rows.proofs.Kind.{Kind, R, byVal, ref, val, tells, makes, lawful}
 use Rattle.rows.proofs.Copied.{copied, all-copied}
 use Rattle.rows.proofs.RowAt as RA
@@ -57,8 +59,14 @@ module _ (k : Kind) (d : k .type .D) (t : Kind) (rows : t .type .D → List (k .
   abbrev ended : Ended
   ended = record { signature = signature; kept = (yes, tt) }
 
+  abbrev Asks : {M : Type 1} (𝓤 : URA M) (κs : Lfts 1) → Args signature κs → SProp 𝓤
+  Asks 𝓤 κs a = fact 𝓤 (length (now (a .0)) ≡ 64)
+
+  abbrev Says : (κs : Lfts 1) → Args signature κs → Res signature κs → AtExit ended κs → Type 0
+  Says κs a r e = rows r ≡ now (a .0)
+
   abbrev clauses : {M : Type 1} (𝓤 : URA M) → Clauses 𝓤 ended
-  clauses 𝓤 κs a = record { ghost = Unit {0}; requires = λ g. fact 𝓤 (length (now (a .0)) ≡ 64); ensures = λ g r e. fact 𝓤 (rows r ≡ now (a .0)) }
+  clauses 𝓤 = saying 𝓤 ended (Asks 𝓤) Says
 
   -- and of the two covered functions that it calls
   abbrev fresh-ended : Ended
@@ -300,6 +308,11 @@ module _ (k : Kind) (d : k .type .D) (t : Kind) (rows : t .type .D → List (k .
     walks 𝓣 kb kr kp = walked 𝓤 H A ended stayed (clauses 𝓤) (WpFn 𝓤 H (𝓣 .C) (𝓣 .Λ) function) (λ κs. (slice-vals, tt)) (λ κs. (shr-slice-tells (named 0) (κs .0) (R k), tt))
         (λ κs qs bounds a g are. needs 𝓤 (length (a .0 .now) ≡ 64) _ (λ ny. walk 𝓤 H A W (κs .0) (qs .0) (a .0) ny 𝓣 (fmOf 𝓤 H (W .laws) 𝓣) kb kr kp (are .0)))
 
-    pub copy-rows-meets : (𝓣 : Tables 𝓤 H) → Triple 𝓤 (𝓣 .C #fresh) (Fresh 𝓤 H A) → Triple 𝓤 (𝓣 .C #row-at) (RowAt 𝓤 H A) → Triple 𝓤 (𝓣 .C #placed) (Placed 𝓤 H A)
+    meets-it : (𝓣 : Tables 𝓤 H) → Triple 𝓤 (𝓣 .C #fresh) (Fresh 𝓤 H A) → Triple 𝓤 (𝓣 .C #row-at) (RowAt 𝓤 H A) → Triple 𝓤 (𝓣 .C #placed) (Placed 𝓤 H A)
         → Meets 𝓤 H A signature (WpFn 𝓤 H (𝓣 .C) (𝓣 .Λ) function) (closing 𝓤 H A ended (clauses 𝓤))
-    copy-rows-meets 𝓣 kb kr kp = walk-meets 𝓤 H A ended stayed W (goes-none-slice 𝓤 H A W 1 (0 ∷ []) tt (plain (λ _. R k)) yes, tt) (clauses 𝓤) (WpFn 𝓤 H (𝓣 .C) (𝓣 .Λ) function) (WpFn-mono 𝓤 H (W .laws) 𝓣 function) (walks 𝓣 kb kr kp)
+    meets-it 𝓣 kb kr kp = walk-meets 𝓤 H A ended stayed W (goes-none-slice 𝓤 H A W 1 (0 ∷ []) tt (plain (λ _. R k)) yes, tt) (clauses 𝓤) (WpFn 𝓤 H (𝓣 .C) (𝓣 .Λ) function) (WpFn-mono 𝓤 H (W .laws) 𝓣 function) (walks 𝓣 kb kr kp)
+
+    -- at the `ensures` E of a function
+    pub copy-rows-meets : (E : Ensures 𝓤 ended (Asks 𝓤)) → Tells 𝓤 ended (Asks 𝓤) Says E → (𝓣 : Tables 𝓤 H) → Triple 𝓤 (𝓣 .C #fresh) (Fresh 𝓤 H A) → Triple 𝓤 (𝓣 .C #row-at) (RowAt 𝓤 H A) → Triple 𝓤 (𝓣 .C #placed) (Placed 𝓤 H A)
+        → Meets 𝓤 H A signature (WpFn 𝓤 H (𝓣 .C) (𝓣 .Λ) function) (closing 𝓤 H A ended (asking 𝓤 ended (Asks 𝓤) E))
+    copy-rows-meets E h 𝓣 kb kr kp = says-so 𝓤 ended (Asks 𝓤) Says H A W E h (WpFn 𝓤 H (𝓣 .C) (𝓣 .Λ) function) (WpFn-mono 𝓤 H (W .laws) 𝓣 function) (meets-it 𝓣 kb kr kp)

@@ -14,6 +14,7 @@ use prog.Memory.{size}
 use prog.Wp.{Heap, Calls, Loops, WpFn, Tables}
 use ghost.Atoms.{Atoms}
 use contract.Monad.{fact}
+use contract.Lifetimes.{Lfts}
 use types.Kit.{Given, ‵, _⊛_, ⋆, _$_, _∵_, !, qed, by, move, keep, split, join, rewrite, fsplit, fjoin, suffices, frame, done}
 use types.Part.{whole, sub, look-in}
 use types.Run.{look, look-raw, init, forget, stop, hop, fld, from, load, lit, of-opd, bin, assigns, returns, enter, alloc1, alloc0, params1, pass1, pass0, free1, free0}
@@ -27,11 +28,12 @@ use denote.Slice.{sliceTy, sliceVal, ShrSlice, Room, slice-vals, shr-slice-tells
 use denote.Index.{place-is, elem-out, elem-back, looks-slice, shuts-slice}
 use denote.Signature.{Signature, plain}
 use denote.Steps.{nothing, owned}
-use denote.Triple.Clauses.{Ended, Clauses, closing}
-use denote.Triple.Entry.{Vals, onEntry}
+use denote.Triple.Clauses.{Ended, Clauses, AtExit, closing}
+use denote.Triple.Entry.{Args, Res, Vals, onEntry}
 use denote.Triple.Spec.{Spec, Meets}
 use denote.Triple.Walked.{says, needs, Stays, stay-none-slice, stay-none, walkOf, goes-none-slice, goes-none, Walks, ends-at, walked, walk-meets}
 use denote.Exit.{yes}
+use Rattle.rows.proofs.Says.{Ensures, asking, saying, Tells, says-so}
 use Rattle.rows.proofs.Kind.{Kind, R, byVal, ref, val, vals, tells, offset-fits, makes, lawful, copy}
 
 module _ (k : Kind) (d : k .type .D) where
@@ -45,8 +47,14 @@ module _ (k : Kind) (d : k .type .D) where
   abbrev pub ended : Ended
   ended = record { signature = signature; kept = (yes, (yes, tt)) }
 
+  abbrev Asks : {M : Type 1} (𝓤 : URA M) (κs : Lfts 1) → Args signature κs → SProp 𝓤
+  Asks 𝓤 κs a = fact 𝓤 (a .1 .0 < length (now (a .0)))
+
+  abbrev Says : (κs : Lfts 1) → Args signature κs → Res signature κs → AtExit ended κs → Type 0
+  Says κs a r e = r ≡ getD (now (a .0)) (a .1 .0) d
+
   abbrev pub clauses : {M : Type 1} (𝓤 : URA M) → Clauses 𝓤 ended
-  clauses 𝓤 κs a = record { ghost = Unit {0}; requires = λ g. fact 𝓤 (a .1 .0 < length (now (a .0))); ensures = λ g r e. fact 𝓤 (r ≡ getD (now (a .0)) (a .1 .0) d) }
+  clauses 𝓤 = saying 𝓤 ended (Asks 𝓤) Says
 
   abbrev body : Body
   body = seq (assign (place 3 []) (op2 (mul unsigned) (copied (place 2 [])) (int w64 (size (byVal k))))) (seq (assign (place 4 []) (op2 offset (copied (place 1 (field 0 ∷ []))) (copied (place 3 []))))
@@ -114,5 +122,10 @@ module _ (k : Kind) (d : k .type .D) where
         (λ κs qs bounds a g are. needs 𝓤 (a .1 .0 < length (a .0 .now)) _
         (walk 𝓤 H A W (κs .0) (qs .0) (a .0 .ptr .0) (a .0 .ptr .1) (a .0 .name) (a .0 .now) (a .1 .0) C Λ (are .0 .0 .1) (are .1 .0 .1)))
 
-    pub row-at-meets : (𝓣 : Tables 𝓤 H) → Meets 𝓤 H A signature (WpFn 𝓤 H (𝓣 .C) (𝓣 .Λ) function) (closing 𝓤 H A ended (clauses 𝓤))
-    row-at-meets 𝓣 = walk-meets 𝓤 H A ended stayed W (goes-none-slice 𝓤 H A W 1 (0 ∷ []) tt (plain (λ _. R k)) yes, (goes-none 𝓤 H A W 1 (λ _. usize) yes (λ κs x f. refl), tt)) (clauses 𝓤) (WpFn 𝓤 H (𝓣 .C) (𝓣 .Λ) function) (WpFn-mono 𝓤 H (W .laws) 𝓣 function) (walks (𝓣 .C) (𝓣 .Λ))
+    meets-it : (𝓣 : Tables 𝓤 H) → Meets 𝓤 H A signature (WpFn 𝓤 H (𝓣 .C) (𝓣 .Λ) function) (closing 𝓤 H A ended (clauses 𝓤))
+    meets-it 𝓣 = walk-meets 𝓤 H A ended stayed W (goes-none-slice 𝓤 H A W 1 (0 ∷ []) tt (plain (λ _. R k)) yes, (goes-none 𝓤 H A W 1 (λ _. usize) yes (λ κs x f. refl), tt)) (clauses 𝓤) (WpFn 𝓤 H (𝓣 .C) (𝓣 .Λ) function) (WpFn-mono 𝓤 H (W .laws) 𝓣 function) (walks (𝓣 .C) (𝓣 .Λ))
+
+    -- at the `ensures` E of a function
+    pub row-at-meets : (E : Ensures 𝓤 ended (Asks 𝓤)) → Tells 𝓤 ended (Asks 𝓤) Says E → (𝓣 : Tables 𝓤 H)
+        → Meets 𝓤 H A signature (WpFn 𝓤 H (𝓣 .C) (𝓣 .Λ) function) (closing 𝓤 H A ended (asking 𝓤 ended (Asks 𝓤) E))
+    row-at-meets E h 𝓣 = says-so 𝓤 ended (Asks 𝓤) Says H A W E h (WpFn 𝓤 H (𝓣 .C) (𝓣 .Λ) function) (WpFn-mono 𝓤 H (W .laws) 𝓣 function) (meets-it 𝓣)

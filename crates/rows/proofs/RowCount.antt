@@ -12,6 +12,7 @@ use base.Fml.{Lft, GName, Share, ftrue, flft}
 use prog.Wp.{Heap, Calls, Loops, WpFn, Tables}
 use ghost.Atoms.{Atoms}
 use contract.Monad.{fact}
+use contract.Lifetimes.{Lfts}
 use types.Kit.{Given, ‵, _⊛_, ⋆, _$_, _∵_, !, qed, by, move, keep, split, join, suffices, frame, done}
 use types.Part.{whole, sub, look-in}
 use types.Run.{look, init, forget, stop, fld, from, load, of-opd, assigns, returns, enter, alloc1, alloc0, params1, pass1, pass0, free1, free0}
@@ -24,11 +25,12 @@ use denote.Ref.{RefT, now}
 use denote.Slice.{sliceTy, sliceVal, ShrSlice, Room, slice-vals, shr-slice-tells}
 use denote.Signature.{Signature, plain}
 use denote.Steps.{nothing, owned}
-use denote.Triple.Clauses.{Ended, Clauses, closing}
-use denote.Triple.Entry.{Vals, onEntry}
+use denote.Triple.Clauses.{Ended, Clauses, AtExit, closing}
+use denote.Triple.Entry.{Args, Res, Vals, onEntry}
 use denote.Triple.Spec.{Meets}
 use denote.Triple.Walked.{says, Stays, stay-none-slice, walkOf, goes-none-slice, Walks, ends-at, walked, walk-meets}
 use denote.Exit.{yes}
+use Rattle.rows.proofs.Says.{Ensures, asking, saying, Tells, says-so}
 use Rattle.rows.proofs.Kind.{Kind, R, ref}
 
 module _ (k : Kind) where
@@ -42,8 +44,14 @@ module _ (k : Kind) where
   abbrev ended : Ended
   ended = record { signature = signature; kept = (yes, tt) }
 
+  abbrev Asks : {M : Type 1} (𝓤 : URA M) (κs : Lfts 1) → Args signature κs → SProp 𝓤
+  Asks 𝓤 κs a = emp 𝓤
+
+  abbrev Says : (κs : Lfts 1) → Args signature κs → Res signature κs → AtExit ended κs → Type 0
+  Says κs a r e = r ≡ length (now (a .0))
+
   abbrev clauses : {M : Type 1} (𝓤 : URA M) → Clauses 𝓤 ended
-  clauses 𝓤 κs a = record { ghost = Unit {0}; requires = λ g. emp 𝓤; ensures = λ g r e. fact 𝓤 (r ≡ length (now (a .0))) }
+  clauses 𝓤 = saying 𝓤 ended (Asks 𝓤) Says
 
   abbrev function : Fn
   function = record {
@@ -88,5 +96,10 @@ module _ (k : Kind) where
         (λ κs qs bounds a g are. via 𝓤 _ (fst∗ 𝓤 _ (emp 𝓤))
         (walk 𝓤 H A W (κs .0) (qs .0) (a .0 .ptr .0) (a .0 .ptr .1) (a .0 .name) (a .0 .now) C Λ (are .0 .0 .1)))
 
-    pub row-count-meets : (𝓣 : Tables 𝓤 H) → Meets 𝓤 H A signature (WpFn 𝓤 H (𝓣 .C) (𝓣 .Λ) function) (closing 𝓤 H A ended (clauses 𝓤))
-    row-count-meets 𝓣 = walk-meets 𝓤 H A ended stayed W (goes-none-slice 𝓤 H A W 1 (0 ∷ []) tt (plain (λ _. R k)) yes, tt) (clauses 𝓤) (WpFn 𝓤 H (𝓣 .C) (𝓣 .Λ) function) (WpFn-mono 𝓤 H (W .laws) 𝓣 function) (walks (𝓣 .C) (𝓣 .Λ))
+    meets-it : (𝓣 : Tables 𝓤 H) → Meets 𝓤 H A signature (WpFn 𝓤 H (𝓣 .C) (𝓣 .Λ) function) (closing 𝓤 H A ended (clauses 𝓤))
+    meets-it 𝓣 = walk-meets 𝓤 H A ended stayed W (goes-none-slice 𝓤 H A W 1 (0 ∷ []) tt (plain (λ _. R k)) yes, tt) (clauses 𝓤) (WpFn 𝓤 H (𝓣 .C) (𝓣 .Λ) function) (WpFn-mono 𝓤 H (W .laws) 𝓣 function) (walks (𝓣 .C) (𝓣 .Λ))
+
+    -- at the `ensures` E of a function
+    pub row-count-meets : (E : Ensures 𝓤 ended (Asks 𝓤)) → Tells 𝓤 ended (Asks 𝓤) Says E → (𝓣 : Tables 𝓤 H)
+        → Meets 𝓤 H A signature (WpFn 𝓤 H (𝓣 .C) (𝓣 .Λ) function) (closing 𝓤 H A ended (asking 𝓤 ended (Asks 𝓤) E))
+    row-count-meets E h 𝓣 = says-so 𝓤 ended (Asks 𝓤) Says H A W E h (WpFn 𝓤 H (𝓣 .C) (𝓣 .Λ) function) (WpFn-mono 𝓤 H (W .laws) 𝓣 function) (meets-it 𝓣)

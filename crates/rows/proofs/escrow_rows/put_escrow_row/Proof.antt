@@ -1,5 +1,6 @@
 -- `rows::escrow_rows::put_escrow_row` meets its contract: it is `PutRow.antt`'s walk at a row of the escrow.
 -- Assumes nothing.
+use contract.Monad.{factI}
 use contract.Running.{givenOf, tables, tablesOf}
 use denote.Triple.Spec.{tripleOf}
 use denote.Triple.Table.{entered}
@@ -15,4 +16,5 @@ unfolding code.routine tablesOf
 put-escrow-row-spec 𝓤 H 𝓜 𝓖 𝓡 =
     entered 𝓤 H (tripleOf 𝓤 H (𝓖 .A) self.signature (self.spec 𝓤 H (𝓖 .A) (𝓜 .mem) (𝓡 .run)))
     (tables 𝓤 H 𝓜 𝓡 code.env .C) (tables 𝓤 H 𝓜 𝓡 code.env .Λ) name code.function (code.unfolded 𝓤 H 𝓜 𝓡)
-    (put-row-meets escrow-row 𝓤 H (𝓖 .A) (givenOf 𝓤 H 𝓜 𝓖) (tablesOf 𝓤 H 𝓜 (tables 𝓤 H 𝓜 𝓡 code.env)))
+    (put-row-meets escrow-row 𝓤 H (𝓖 .A) (givenOf 𝓤 H 𝓜 𝓖)
+    (λ κs a. self.clauses 𝓤 H (𝓖 .A) (𝓜 .mem) (𝓡 .run) κs a .ensures) (λ κs a r e p. factI 𝓤 _ _ p) (tablesOf 𝓤 H 𝓜 (tables 𝓤 H 𝓜 𝓡 code.env)))
