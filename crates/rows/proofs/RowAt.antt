@@ -30,7 +30,7 @@ use denote.Signature.{Signature, plain}
 use denote.Steps.{nothing, owned}
 use denote.Triple.Clauses.{Ended, Clauses, AtExit, closing}
 use denote.Triple.Entry.{Args, Res, Vals, onEntry}
-use denote.Triple.Spec.{Spec, Meets}
+use denote.Triple.Spec.{Meets}
 use denote.Triple.Walked.{says, needs, Stays, stay-none-slice, stay-none, walkOf, goes-none-slice, goes-none, Walks, ends-at, walked, walk-meets}
 use denote.Exit.{yes}
 use Rattle.rows.proofs.Says.{Ensures, asking, saying, Tells, says-so}
