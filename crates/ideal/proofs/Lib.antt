@@ -36,3 +36,5 @@ pub mod TwoRuns
 pub mod Secret
 pub mod Differing
 pub mod Examined
+pub mod Behaviours
+pub mod Paper

@@ -216,3 +216,15 @@ module _ (es : List Element) (k i o : ℕ) (h : Handle) (used : ℕ)
   pub retrieve-at : RetrieveAt callOn es k i o h
   retrieve-at =
       record { hands-out = λ v. (there v, back v); one-value = one-value; not-there = not-there; too-far = too-far }
+
+  pub record Handed : Type 0 where
+    pub value : List ℕ
+    pub is : HandsOut callOn es o value k
+
+  -- an accepted retrieve hands out a value
+  pub handed : answerAt callOn es k .code ≡ 0 → Handed
+  handed e =
+      let a = accepted-at es k c used reads e in
+      let r = was-ready s i o h 0 (a .passes) (λ z. omega arith) (λ z. omega arith) in
+      let g = got r (a .passes) in
+      record { value = g .value; is = hands (g .value) a r (g .finds) (g .fits) }

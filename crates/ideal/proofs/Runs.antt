@@ -72,6 +72,14 @@ answer-at es k =
     ap (λ t. callOn t (elementAt es k) .answer) (tables-before es k)
     ∙ ap (λ r. r .answer) (call-is (stateBefore es k) (elementAt es k) (valid-before es k))
 
+pub tables-next : (es : List Element) (k : ℕ)
+    → tablesBefore callOn es (suc k) ≡ callOn (tablesBefore callOn es k) (elementAt es k) .tables
+unfolding laid
+tables-next es k =
+    tables-before es (suc k) ∙ ap tables (state-next es k)
+    ∙ ap (λ r. r .tables) (sym (call-is (stateBefore es k) (elementAt es k) (valid-before es k)))
+    ∙ ap (λ t. callOn t (elementAt es k) .tables) (sym (tables-before es k))
+
 -- ---- one element
 
 -- the element is a call that is accepted

@@ -14,3 +14,4 @@ pub mod Secrecy
 pub mod Witness
 pub mod Exam
 pub mod Fit
+pub mod Paper

@@ -1,0 +1,167 @@
+-- The CAIF paper's section 3 by its own numbers: Definition 1, Lemmas 1 and 2, the assumptions (i) to (iii) on handles.
+-- Lemma 3 is in specs/PaperSecrecy.antt.
+use Prim.Native.Nat.{ℕ, zero, suc, _+_, _≤_, _<_}
+use mathlib.Core.Path.{_≡_}
+use mathlib.Core.Bool.{Bool, true, false, cond}
+use mathlib.Core.List.{List, [], _∷_, _++_}
+use mathlib.Core.Option.{Option, none, some}
+use lib.ListN.{length}
+use lib.Dec.{eqb}
+use Rattle.fnv.specs.declared.Tag.{Tag}
+use Rattle.record.specs.declared.Handle.{Handle}
+use Rattle.record.specs.declared.Draw.{Draw}
+use Rattle.record.specs.Call.{Call, create, start, yield, exit, heapWrite, heapRead, sharedWrite, sharedRead, attest, check, protect, retrieve, report}
+use Rattle.record.specs.Read.{Reading, refused, whole, read}
+use Rattle.ideal.specs.Tables.{Tables, freshTables}
+use Rattle.ideal.specs.Box.{Element, Result}
+use Rattle.ideal.specs.Refusals.{callerIn, ownBytes}
+use Rattle.ideal.specs.Accuracy.{Earlier, handleUsed, HandleOnce, HandleIsFirstFree}
+
+-- ---- Definition 1
+
+-- "A command c is an instruction together with a choice of its command arguments." A value v is what the heap held in the
+-- part that the call names. The draw is no argument: it stands for iprotect's sampling. A retrieve's offset, which the paper
+-- leaves open, says where in its heap the caller wants the value.
+pub data Command : Type 0 where
+  iattest : (v : List ℕ) → Command
+  icheck : (source : ℕ) (v : List ℕ) (τ : Tag) → Command
+  iprotect : (recipient : ℕ) (v : List ℕ) → Command
+  iretrieve : (source : ℕ) (η : Handle) (offset : ℕ) → Command
+
+-- "the result of executing the instruction"; an instruction that fails gives the refusal's number
+pub data Response : Type 0 where
+  tag : (τ : Tag) → Response
+  truth : (yes : Bool) → Response
+  handle : (η : Handle) → Response
+  value : (v : List ℕ) → Response
+  fails : (code : ℕ) → Response
+
+-- "An event is a triple (command, principal, result) of: a command; the executing service principal that causes it (or ⊥ if
+-- the active process is not a service); and the result of executing the instruction."
+pub record Event : Type 0 where
+  pub command : Command
+  pub principal : Option ℕ
+  pub result : Response
+
+-- none is the paper's ⊥
+unfoldable pub principalIn : Tables → Option ℕ
+principalIn t = cond (eqb (t .box .running) 16) none (some (callerIn t))
+
+-- a call that gave r on t, as an event
+unfoldable pub eventOf : Tables → Result → Command → Response → List Event
+eventOf t r command result =
+    record {
+      command = command;
+      principal = principalIn t;
+      result = cond (eqb (r .answer .code) 0) result (fails (r .answer .code));
+    }
+    ∷ []
+
+-- each attest, check, protect and retrieve is an event, accepted or refused. The other nine kinds are none: they are
+-- "normal computational steps", or the auxiliary operations of 5.3.
+unfoldable pub eventOn : Tables → Result → Call → List Event
+eventOn t r (create p i) = []
+eventOn t r (start p) = []
+eventOn t r yield = []
+eventOn t r exit = []
+eventOn t r (heapWrite p o v) = []
+eventOn t r (heapRead p o n) = []
+eventOn t r (sharedWrite o v) = []
+eventOn t r (sharedRead o n) = []
+eventOn t r (attest o n) = eventOf t r (iattest (ownBytes t o n)) (tag (record { 0 = r .answer .number }))
+eventOn t r (check i g v) = eventOf t r (icheck i v g) (truth (eqb (r .answer .number) 1))
+eventOn t r (protect i o n d) = eventOf t r (iprotect i (ownBytes t o n)) (handle (record { 0 = r .answer .number }))
+eventOn t r (retrieve i o h) = eventOf t r (iretrieve i h o) (value (ownBytes (r .tables) o (r .answer .number)))
+eventOn t r report = []
+
+-- what the box answers 1, 2, 3 or 15 executes no instruction: there is no call, or the host lent no box to execute it on
+unfoldable pub events : Tables → Result → Reading → List Event
+events t r (refused code number) = []
+events t r (whole c used) = cond (eqb (r .answer .code) 15) [] (eventOn t r c)
+
+module _ (box : Tables → Element → Result) where
+  unfoldable pub behaviourFrom : Tables → List Element → List Event
+  behaviourFrom t [] = []
+  behaviourFrom t (e ∷ es) = events t (box t e) (read (e .bytes)) ++ behaviourFrom (box t e .tables) es
+
+  -- "An IF behavior is a behavior of IF starting from the initial state with empty lookup tables."
+  unfoldable pub behaviour : List Element → List Event
+  behaviour es = behaviourFrom freshTables es
+
+unfoldable pub eventAt : List Event → ℕ → Option Event
+eventAt [] i = none
+eventAt (e ∷ α) zero = some e
+eventAt (e ∷ α) (suc i) = eventAt α i
+
+-- the event of α at index i is this triple
+abbrev pub Occurs : List Event → ℕ → Command → Option ℕ → Response → Type 0
+Occurs α i c p r = eventAt α i ≡ some (record { command = c; principal = p; result = r })
+
+unfoldable pub needsService : Command → Bool
+needsService (iattest v) = true
+needsService (icheck p v τ) = false
+needsService (iprotect q v) = true
+needsService (iretrieve p η offset) = true
+
+-- ---- Lemmas 1 and 2, of every behaviour α of the box
+
+module _ (box : Tables → Element → Result) where
+  -- "If, for i < j, c_i = iattest(v) and c_j = icheck(P_i, v, r_i), then r_j = true."
+  abbrev pub Lemma1-1 : Type 0
+  Lemma1-1 = (es : List Element) (i j : ℕ) (v : List ℕ) (p : ℕ) (τ : Tag) (q : Option ℕ) (r : Response)
+      → let α = behaviour box es in
+      i < j → Occurs α i (iattest v) (some p) (tag τ) → Occurs α j (icheck p v τ) q r → r ≡ truth true
+
+  -- "If c_j = icheck(p, v, τ) and r_j = true, then for some i < j, c_i = iattest(v), P_i = p, and r_i = τ."
+  abbrev pub Lemma1-2 : Type 0
+  Lemma1-2 = (es : List Element) (j : ℕ) (v : List ℕ) (p : ℕ) (τ : Tag) (q : Option ℕ)
+      → let α = behaviour box es in
+      Occurs α j (icheck p v τ) q (truth true) → Earlier (λ i. Occurs α i (iattest v) (some p) (tag τ)) j
+
+  -- "If, for i < j, c_i = iprotect(P_j, v) and c_j = iretrieve(P_i, r_i), then r_j = v." Here the value must also fit where
+  -- the caller wants it.
+  abbrev pub Lemma2-1 : Type 0
+  Lemma2-1 = (es : List Element) (i j : ℕ) (v : List ℕ) (p q : ℕ) (η : Handle) (offset : ℕ) (r : Response)
+      → let α = behaviour box es in
+      i < j → Occurs α i (iprotect q v) (some p) (handle η) → Occurs α j (iretrieve p η offset) (some q) r
+      → offset + length v ≤ 256 → r ≡ value v
+
+  -- "If c_j = iretrieve(p, η) and r_j = v, then for some i < j, c_i = iprotect(P_j, v), P_i = p, and r_i = η."
+  abbrev pub Lemma2-2 : Type 0
+  Lemma2-2 = (es : List Element) (j : ℕ) (v : List ℕ) (p q : ℕ) (η : Handle) (offset : ℕ)
+      → let α = behaviour box es in
+      Occurs α j (iretrieve p η offset) (some q) (value v)
+      → Earlier (λ i. Occurs α i (iprotect q v) (some p) (handle η)) j
+
+  -- "Any active process can use icheck"; "only a service can execute" the others: where none runs they fail, by 4
+  abbrev pub OnlyServices : Type 0
+  OnlyServices = (es : List Element) (i : ℕ) (c : Command) (r : Response)
+      → needsService c ≡ true → Occurs (behaviour box es) i c none r → r ≡ fails 4
+
+-- ---- the assumptions on handles
+
+module _ (box : Tables → Element → Result) where
+  -- an accepted protect of n bytes with this draw on t, and the handle that it gets
+  pub record Gives (t : Tables) (n : ℕ) (d : Draw) (η : ℕ) : Type 0 where
+    pub element : Element
+    pub recipient : ℕ
+    pub offset : ℕ
+    pub used : ℕ
+    pub reads : read (element .bytes) ≡ whole (protect recipient offset n d) used
+    pub accepts : box t element .answer .code ≡ 0
+    pub gets : box t element .answer .number ≡ η
+
+  -- "(i) the randomized choice of η is independent of which v is presented, for all v of a given length j": it depends on the
+  -- length, the draw and the escrow's handles, and on nothing else in two boxes
+  abbrev pub Assumption-i : Type 0
+  Assumption-i = (t u : Tables) (n : ℕ) (d : Draw) (η ζ : ℕ) → ((h : Handle) → handleUsed t h ≡ handleUsed u h)
+      → Gives t n d η → Gives u n d ζ → η ≡ ζ
+
+  -- "(ii) For different lengths j ≠ j', the supports are disjoint": whatever the boxes, draws, sources and recipients
+  abbrev pub Assumption-ii : Type 0
+  Assumption-ii = (t u : Tables) (n m : ℕ) (d c : Draw) (η : ℕ) → Gives t n d η → Gives u m c η → n ≡ m
+
+  -- "(iii) The IF does not re-use any handle η; it checks the table entries and resamples in case of collision."
+  pub record Assumption-iii : Type 0 where
+    pub no-re-use : HandleOnce box
+    pub resamples : HandleIsFirstFree box
