@@ -18,14 +18,15 @@ use Rattle.ideal.specs.Step.{idle, tests, first, _then_, accept, refusal
 use Rattle.ideal.specs.Tables.{Tables, freshTables}
 use Rattle.ideal.specs.Box.{Element, Result, callOn, elementAt, tablesFrom, tablesAfter, tablesBefore, answerAt}
 use Rattle.ideal.specs.Refusals.{callerIn, ownBytes}
-use Rattle.ideal.specs.Accuracy.{Earlier, LogsAt, ProtectsAt, HandsOut, Sized}
-use Rattle.ideal.specs.Paper.{Command, iattest, icheck, iprotect, iretrieve, Response, tag, truth, handle, value, fails, Event, principalIn, eventOf, eventOn, events, behaviour, behaviourFrom, eventAt, Occurs, needsService, Lemma1-1, Lemma1-2, Lemma2-1, Lemma2-2, OnlyServices}
+use Rattle.ideal.specs.Accuracy.{Earlier, LogsAt, ProtectsAt, HandsOut, Sized, candidate, handleUsed, FirstFree}
+use Rattle.ideal.specs.Paper.{Command, iattest, icheck, iprotect, iretrieve, Response, tag, truth, handle, value, fails, Event, principalIn, eventOf, eventOn, events, behaviour, behaviourFrom, eventAt, Occurs, needsService, Lemma1-1, Lemma1-2, Lemma2-1, Lemma2-2, OnlyServices, Gives, Assumption-i, Assumption-ii, Assumption-iii}
 use Rattle.ideal.proofs.Bools.{by-cases, clash}
 use Rattle.ideal.proofs.Runs.{stateBefore, valid-before, running-before, tables-next, sized-at, code-at, accepted-at}
 use Rattle.ideal.proofs.Logs.{attest-passed}
 use Rattle.ideal.proofs.Escrows.{protect-passed}
 use Rattle.ideal.proofs.Checks.{check-at}
 use Rattle.ideal.proofs.Retrieves.{retrieve-at, handed}
+use Rattle.ideal.proofs.Accurate.{handle-once, handle-is-first-free}
 use Rattle.ideal.proofs.Behaviours.{eventsAt, countAt, CallOf, call-of, event-of, call-before, event-before}
 
 -- ---- an event, and the call that it is of
@@ -189,24 +190,20 @@ module _ (es : List Element) where
       }
 
   module _ (j : ℕ) (c : Command) (p : Option ℕ) (r : Response) (y : EventOf j (record { command = c; principal = p; result = r })) where
-    abbrev k : ℕ
-    k = y .index
-
-    abbrev t : Tables
-    t = tablesBefore callOn es k
-
-    code-not : answerAt callOn es k .code ≡ 15 → ⊥
+    code-not : answerAt callOn es (y .index) .code ≡ 15 → ⊥
     unfolding answerAt
     code-not = y .seen .reached
 
-    sized : Sized callOn es k
-    sized = sized-at es k code-not
+    sized : Sized callOn es (y .index)
+    sized = sized-at es (y .index) code-not
 
-    reads-as : (d : Call) → y .seen .call ≡ d → read (elementAt es k .bytes) ≡ whole d (y .seen .used)
+    reads-as : (d : Call) → y .seen .call ≡ d → read (elementAt es (y .index) .bytes) ≡ whole d (y .seen .used)
     reads-as d e = y .seen .reads ∙ ap (λ x. whole x (y .seen .used)) e
 
     -- where the event is no failure
-    gave : fails? r ≡ false → Succeeds (answerAt callOn es k .code) (given (callOn t (elementAt es k)) c) r
+    gave : fails? r ≡ false
+        → Succeeds (answerAt callOn es (y .index) .code)
+        (given (callOn (tablesBefore callOn es (y .index)) (elementAt es (y .index))) c) r
     unfolding answerAt
     gave f = succeeds _ _ r f (y .seen .did .result)
 
@@ -376,3 +373,41 @@ only-services es i (iretrieve p η o) r n h =
     let y = event-at es i _ h in
     let code = code-at es (y .index) (retrieve p o η) (y .seen .used) (reads-as es i _ _ _ y _ (y .seen .did .was)) (sized es i _ _ _ y) in
     gives-four _ _ r (y .seen .did .result) (code ∙ rw (none-runs es i _ r y))
+
+-- ---- the assumptions on handles
+
+first-free-of : (t : Tables) (n : ℕ) (d : Draw) (η : ℕ) → Gives callOn t n d η → FirstFree t n (d .0) (record { 0 = η })
+first-free-of t n d η g =
+    rw (g .gets) at (handle-is-first-free t (g .element) (g .recipient) (g .offset) n d (g .used) (g .reads) (g .accepts))
+
+-- a draw that one box passes over is not what another, with the same handles in use, stops at
+not-passed : (t u : Tables) (n d : ℕ) (a b : Handle) → ((h : Handle) → handleUsed t h ≡ handleUsed u h)
+    → (f : FirstFree t n d a) (g : FirstFree u n d b) → f .passed < g .passed → ⊥
+not-passed t u n d a b same f g l =
+    clash (handleUsed u (candidate n d (f .passed))) (g .used (f .passed) l)
+    (sym (same _) ∙ ap (handleUsed t) (sym (f .is)) ∙ f .free)
+
+pub assumption-i : Assumption-i callOn
+assumption-i t u n d η ζ same x y =
+    let f = first-free-of t n d η x in
+    let g = first-free-of u n d ζ y in
+    let e : f .passed ≡ g .passed =
+    by-cases (ltb (f .passed) (g .passed))
+    (λ q. absurd (not-passed t u n (d .0) _ _ same f g (ltb-true _ _ q)))
+    (λ q.
+    by-cases (ltb (g .passed) (f .passed))
+    (λ r. absurd (not-passed u t n (d .0) _ _ (λ h. sym (same h)) g f (ltb-true _ _ r)))
+    (λ r. let a = ltb-false (f .passed) (g .passed) q in let b = ltb-false (g .passed) (f .passed) r in omega arith)) in
+    ap (λ h. h .0) (f .is ∙ ap (candidate n (d .0)) e ∙ sym (g .is))
+
+pub assumption-ii : Assumption-ii callOn
+unfolding candidate
+assumption-ii t u n m d c η x y =
+    let f = first-free-of t n d η x in
+    let g = first-free-of u m c η y in
+    let a = ap (λ h. h .0) (f .is) in
+    let b = ap (λ h. h .0) (g .is) in
+    omega arith
+
+pub assumption-iii : Assumption-iii callOn
+assumption-iii = record { no-re-use = handle-once; resamples = handle-is-first-free }
