@@ -27,7 +27,7 @@ use Rattle.ideal.proofs.TwoStates.{Secrets, SameBut, same-state, AlikeC
 use Rattle.ideal.proofs.TwoRuns.{Preserved, Stepped, secrecy-of}
 
 -- a branch of each side, by the same test
-cond-both : {A : Type 0} (R : A → A → Type 0) (b : Bool) {x y v w : A} → (b ≡ true → R x y) → (b ≡ false → R v w)
+pub cond-both : {A : Type 0} (R : A → A → Type 0) (b : Bool) {x y v w : A} → (b ≡ true → R x y) → (b ≡ false → R v w)
     → R (cond b x v) (cond b y w)
 cond-both R true f g = f refl
 cond-both R false f g = g refl
@@ -59,7 +59,7 @@ none-told G p =
     record {
       attests = p .attests;
       protects = λ g i o n d q e r. p .protects g i o n d q (and-other _ _ g e) r;
-      retrieves = λ g i o h q. and-false (inside G i) _ g;
+      retrieves = λ g i o h q r. and-false (inside G i) _ g;
     }
 
 -- ---- one step on both states
@@ -100,7 +100,7 @@ runs-below G s v g =
     let none : caller s ≡ 0 = List·getD-eq-default (s .identities) 0 (omega arith) in
     clash (inside G (caller s)) g (rw none (inside-zero G)))
 
-accepted-code : (s : State) (e : Element) (c : Call) (u : ℕ) → Valid s → eqb (e .outputSize) 1024 ≡ true
+pub accepted-code : (s : State) (e : Element) (c : Call) (u : ℕ) → Valid s → eqb (e .outputSize) 1024 ≡ true
     → read (e .bytes) ≡ whole c u → refusal s c ≡ 0 → callOn (tables s) e .answer .code ≡ 0
 unfolding laid stepElement stepOn onReading step settle accepted
 accepted-code s e c u v x y r = ap (λ z. z .answer .code) (call-is s e v) ∙ rw (x, y, r)
@@ -159,42 +159,39 @@ unfolding rowsFrom
 same-rows secret at no-entries = refl
 same-rows secret at (entry x xs) = rw (x .key, x .size, same-rows secret _ xs)
 
-module _ (G : ℕ → Bool) {s t : State} (k : SameBut (held G) s t) where
-  same-box : boxRecord s ≡ boxRecord t
+module _ (z : Secrets) {s t : State} (k : SameBut z s t) where
+  pub same-box : boxRecord s ≡ boxRecord t
   unfolding boxRecord
-  same-box =
-      rw (k .identities, k .running, k .log, same-count (held G .value) (k .escrow), same-bytes-used (held G .value) (k .escrow))
+  same-box = rw (k .identities, k .running, k .log, same-count (z .value) (k .escrow), same-bytes-used (z .value) (k .escrow))
 
-  same-escrow-rows : tables s .escrowRows ≡ tables t .escrowRows
+  pub same-escrow-rows : tables s .escrowRows ≡ tables t .escrowRows
   unfolding tables rowsOf
-  same-escrow-rows = rw (same-rows (held G .value) 0 (k .escrow))
+  same-escrow-rows = rw (same-rows (z .value) 0 (k .escrow))
 
-  module _ (v : Valid s) (w : Valid t) where
-    same-escrow-values : (n : ℕ) → n < length (s .escrow)
-        → let r = getD (tables s .escrowRows) n (escrowTable .blank) in
-        groupToGroup G r ≡ false
-        → part (tables s .escrowValues) (r .first) (r .length) ≡ part (tables t .escrowValues) (r .first) (r .length)
-    unfolding groupToGroup
-    same-escrow-values n h g =
-        let c = same-count (held G .value) (k .escrow) in
-        let a = escrowed-is s v no-entry n h in
-        let b = escrowed-is t w no-entry n (omega arith) in
-        let m = same-at (held G .value) no-entry n (k .escrow) in
-        ap (λ z. z .value) a ∙ m .value (ap (λ z. held G .value (z .key)) (sym a) ∙ g) ∙ sym (ap (λ z. z .value) b)
-        ∙ ap (λ l. entryOf escrowTable (tables t .escrowValues) (getD l n (escrowTable .blank)) .value) (sym same-escrow-rows)
+  pub same-escrow-values : Valid s → Valid t → (n : ℕ) → n < length (s .escrow)
+      → let r = getD (tables s .escrowRows) n (escrowTable .blank) in
+      z .value (escrowTable .key r) ≡ false
+      → part (tables s .escrowValues) (r .first) (r .length) ≡ part (tables t .escrowValues) (r .first) (r .length)
+  same-escrow-values v w n h g =
+      let c = same-count (z .value) (k .escrow) in
+      let a = escrowed-is s v no-entry n h in
+      let b = escrowed-is t w no-entry n (omega arith) in
+      let m = same-at (z .value) no-entry n (k .escrow) in
+      ap (λ e. e .value) a ∙ m .value (ap (λ e. z .value (e .key)) (sym a) ∙ g) ∙ sym (ap (λ e. e .value) b)
+      ∙ ap (λ l. entryOf escrowTable (tables t .escrowValues) (getD l n (escrowTable .blank)) .value) (sym same-escrow-rows)
 
-    agree-outside : AgreeOutside G (tables s) (tables t)
-    unfolding tables boxRecord
-    agree-outside =
-        record {
-          box = same-box;
-          shared = k .shared;
-          logRows = rw (k .log);
-          logValues = rw (k .log);
-          escrowRows = same-escrow-rows;
-          heaps = λ p h g. heap-is s v p h ∙ k .heaps .open-places p g ∙ sym (heap-is t w p h);
-          escrowValues = same-escrow-values;
-        }
+agree-outside : (G : ℕ → Bool) {s t : State} → SameBut (held G) s t → Valid s → Valid t → AgreeOutside G (tables s) (tables t)
+unfolding tables boxRecord groupToGroup
+agree-outside G {s} {t} k v w =
+    record {
+      box = same-box (held G) k;
+      shared = k .shared;
+      logRows = rw (k .log);
+      logValues = rw (k .log);
+      escrowRows = same-escrow-rows (held G) k;
+      heaps = λ p h g. heap-is s v p h ∙ k .heaps .open-places p g ∙ sym (heap-is t w p h);
+      escrowValues = same-escrow-values (held G) k v w;
+    }
 
 -- tables of two runs, with the states that they are the tables of
 record Related (G : ℕ → Bool) (x y : Tables) : Type 0 where

@@ -81,7 +81,7 @@ pub record NoneTold (z : Secrets) (s t : State) (c : Call) : Type 0 where
   pub attests : z .heap (caller s) ≡ true → (o n : ℕ) → c ≡ attest o n → o + n ≤ 256 → ownPart s o n ≡ ownPart t o n
   pub protects : z .heap (caller s) ≡ true → (i o n : ℕ) (d : Draw) → c ≡ protect i o n d
       → z .value (protected s i o n d .key) ≡ false → refusal s c ≡ 0 → ownPart s o n ≡ ownPart t o n
-  pub retrieves : z .heap (caller s) ≡ false → (i o : ℕ) (h : Handle) → c ≡ retrieve i o h
+  pub retrieves : z .heap (caller s) ≡ false → (i o : ℕ) (h : Handle) → c ≡ retrieve i o h → refusal s c ≡ 0
       → z .value (record { source = i; recipient = caller s; handle = h }) ≡ false
 
 module _ (z : Secrets) {s t : State} (k : SameBut z s t) where
@@ -299,7 +299,7 @@ module _ (z : Secrets) {s t : State} (k : SameBut z s t) where
   same-effect (same-call (check i g v)) a r = k
   same-effect (same-call (protect i o n d)) a r = with-entry z k _ _ (accepted-protect z k i o n d a r)
   same-effect (same-call (retrieve i o h)) a r =
-      let f = same-found z k i h in with-written z k o _ _ (f .size) (λ g. f .value (a .retrieves g i o h refl))
+      let f = same-found z k i h in with-written z k o _ _ (f .size) (λ g. f .value (a .retrieves g i o h refl r))
   same-effect (same-call report) a r = k
   same-effect (other-call p o v w g n) a r = with-written z k o v w n (λ h. clash _ g h)
 

@@ -1,20 +1,21 @@
--- The CAIF paper's section 3 by its own numbers: Definition 1, Lemmas 1 and 2, the assumptions (i) to (iii) on handles.
--- Lemma 3 is in specs/PaperSecrecy.antt.
+-- The CAIF paper's section 3 by its own numbers: Definition 1, Lemmas 1 to 3, the assumptions (i) to (iii) on handles.
 use Prim.Native.Nat.{ℕ, zero, suc, _+_, _≤_, _<_}
 use mathlib.Core.Path.{_≡_}
 use mathlib.Core.Bool.{Bool, true, false, cond}
 use mathlib.Core.List.{List, [], _∷_, _++_}
 use mathlib.Core.Option.{Option, none, some}
-use lib.ListN.{length}
+use lib.ListN.{length, getD, take}
 use lib.Dec.{eqb}
 use Rattle.fnv.specs.declared.Tag.{Tag}
 use Rattle.record.specs.declared.Handle.{Handle}
 use Rattle.record.specs.declared.Draw.{Draw}
 use Rattle.record.specs.Call.{Call, create, start, yield, exit, heapWrite, heapRead, sharedWrite, sharedRead, attest, check, protect, retrieve, report}
 use Rattle.record.specs.Read.{Reading, refused, whole, read}
-use Rattle.ideal.specs.Tables.{Tables, freshTables}
-use Rattle.ideal.specs.Box.{Element, Result}
-use Rattle.ideal.specs.Refusals.{callerIn, ownBytes}
+use Rattle.ideal.specs.State.{part}
+use Rattle.ideal.specs.Tables.{Tables, escrowTable, freshTables}
+use Rattle.ideal.specs.Box.{Element, Result, elementAt, tablesFrom, answersFrom}
+use Rattle.ideal.specs.Layouts.{Sound}
+use Rattle.ideal.specs.Refusals.{callerIn, ownBytes, isRow}
 use Rattle.ideal.specs.Accuracy.{Earlier, handleUsed, HandleOnce, HandleIsFirstFree}
 
 -- ---- Definition 1
@@ -165,3 +166,42 @@ module _ (box : Tables → Element → Result) where
   pub record Assumption-iii : Type 0 where
     pub no-re-use : HandleOnce box
     pub resamples : HandleIsFirstFree box
+
+-- ---- Lemma 3: what is escrowed under (η, P_s, P_r) and not retrieved shows nowhere
+
+-- two boxes that differ in the value of (η, p, q) alone; its length, which stands in the row, is the same
+pub record OnlyValue (p q : ℕ) (η : Handle) (t u : Tables) : Type 0 where
+  pub box : t .box ≡ u .box
+  pub heaps : t .heaps ≡ u .heaps
+  pub shared : t .shared ≡ u .shared
+  pub logRows : t .logRows ≡ u .logRows
+  pub logValues : t .logValues ≡ u .logValues
+  pub escrowRows : t .escrowRows ≡ u .escrowRows
+  pub escrowValues : (k : ℕ) → k < t .box .escrow .rows
+      → let r = getD (t .escrowRows) k (escrowTable .blank) in isRow η p q r ≡ false
+      → part (t .escrowValues) (r .first) (r .length) ≡ part (u .escrowValues) (r .first) (r .length)
+
+module _ (box : Tables → Element → Result) where
+  -- at index k of a run from t the recipient q is handed the value: it retrieves (η, p, q) and is accepted
+  pub record RetrievesAt (p q : ℕ) (η : Handle) (t : Tables) (es : List Element) (k : ℕ) : Type 0 where
+    pub offset : ℕ
+    pub used : ℕ
+    pub reads : read (elementAt es k .bytes) ≡ whole (retrieve p offset η) used
+    pub by : callerIn (tablesFrom box t (take k es)) ≡ q
+    pub accepts : box (tablesFrom box t (take k es)) (elementAt es k) .answer .code ≡ 0
+
+  -- "Suppose there is no subsequent c_j = iretrieve(P_i, r_i) with this input r_i and P_j = P_r": here only accepted ones are
+  -- excluded, and in the first run only
+  abbrev pub NeverRetrieved : (p q : ℕ) (η : Handle) → Tables → List Element → Type 0
+  NeverRetrieved p q η t es = (k : ℕ) → k < length es → RetrievesAt p q η t es k → ⊥
+
+  pub record AgreeBut (p q : ℕ) (η : Handle) (t u : Tables) (es : List Element) : Type 0 where
+    -- codes, numbers, bytes used and bytes shown
+    pub answers : answersFrom box t es ≡ answersFrom box u es
+    pub end : OnlyValue p q η (tablesFrom box t es) (tablesFrom box u es)
+
+  -- Lemma 3 without probabilities: any two sound boxes that differ in that value alone answer every list of elements alike,
+  -- draws included, and again differ in that value alone
+  abbrev pub Lemma3 : Type 0
+  Lemma3 = (p q : ℕ) (η : Handle) (t u : Tables) (es : List Element) → Sound t 1024 → Sound u 1024 → OnlyValue p q η t u
+      → NeverRetrieved p q η t es → AgreeBut p q η t u es
