@@ -38,3 +38,4 @@ pub mod Differing
 pub mod Examined
 pub mod Behaviours
 pub mod Paper
+pub mod Unretrieved

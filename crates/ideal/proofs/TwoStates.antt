@@ -33,7 +33,7 @@ set-pointwise R d (a ∷ l) (b ∷ m) (suc i) zero x y e z old new = old (omega 
 set-pointwise R d (a ∷ l) (b ∷ m) (suc i) (suc p) x y e z old new =
     set-pointwise R d l m i p x y (omega arith) z (λ n. old (omega arith)) (λ q. new (ap suc q))
 
-length-part : (m k : List ℕ) (o n : ℕ) → length m ≡ length k → length (part m o n) ≡ length (part k o n)
+pub length-part : (m k : List ℕ) (o n : ℕ) → length m ≡ length k → length (part m o n) ≡ length (part k o n)
 length-part m k o n e = simp (length-take, length-drop, e)
 
 -- ---- the relation

@@ -198,6 +198,7 @@ module _ (box : Tables → Element → Result) where
   pub record AgreeBut (p q : ℕ) (η : Handle) (t u : Tables) (es : List Element) : Type 0 where
     -- codes, numbers, bytes used and bytes shown
     pub answers : answersFrom box t es ≡ answersFrom box u es
+    pub events : behaviourFrom box t es ≡ behaviourFrom box u es
     pub end : OnlyValue p q η (tablesFrom box t es) (tablesFrom box u es)
 
   -- Lemma 3 without probabilities: any two sound boxes that differ in that value alone answer every list of elements alike,

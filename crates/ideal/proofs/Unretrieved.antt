@@ -1,0 +1,244 @@
+-- A value that is escrowed and not retrieved shows nowhere: Lemma 3 of specs/Paper.antt. Assumes nothing.
+use Prim.Native.Nat.{ℕ, zero, suc, _<_}
+use mathlib.Core.Path.{_≡_, refl, sym, ap, _∙_, subst, subst₂}
+use mathlib.Core.Bool.{Bool, true, false, _&&_, cond, false≢true}
+use mathlib.Core.List.{List, [], _∷_, _++_}
+use native.Mathlib.Omega.{arith}
+use lib.ListN.{length, getD, take, length-take, length-drop}
+use lib.Seq.{ext-getD, getD-take}
+use lib.Dec.{eqb}
+use borrow.Author.Tests.{eqb-true}
+use Rattle.record.specs.declared.Handle.{Handle}
+use Rattle.record.specs.Call.{Call, create, start, yield, exit, heapWrite, heapRead, sharedWrite, sharedRead, attest, check, protect, retrieve, report}
+use Rattle.record.specs.Read.{Reading, refused, whole, read}
+use Rattle.ideal.specs.declared.EscrowRow.{EscrowRow}
+use Rattle.ideal.specs.State.{EscrowKey, State, caller, part}
+use Rattle.ideal.specs.Step.{Outcome, refusal, refuse, refusedAnswer, accepted, settle, step, onReading, stepOn}
+use Rattle.ideal.specs.Tables.{Tables, escrowTable, entryOf, entriesOf, usedEscrow, boxRecord, tables, stateOf}
+use Rattle.ideal.specs.Box.{Element, Result, laid, callOn, elementAt, tablesFrom, answersFrom}
+use Rattle.ideal.specs.Layouts.{Sound}
+use Rattle.ideal.specs.Refusals.{isRow, callerIn, ownBytes}
+use Rattle.ideal.specs.Valid.{Valid}
+use Rattle.ideal.specs.Paper.{principalIn, eventOf, eventOn, events, behaviourFrom, OnlyValue, RetrievesAt, NeverRetrieved, AgreeBut, Lemma3}
+use Rattle.ideal.proofs.Bools.{by-cases, and-left, and-right}
+use Rattle.ideal.proofs.Facts.{facts}
+use Rattle.ideal.proofs.Laid.{stepElement, valid-sound, tables-state, valid-step, call-is}
+use Rattle.ideal.proofs.TwoEscrows.{SameEntry, SameEscrow, no-entries, entry}
+use Rattle.ideal.proofs.TwoStates.{Secrets, SameHeaps, SameBut, length-part, AlikeCalls, same-call, NoneTold, same-refusal, same-effect, same-number, same-shown}
+use Rattle.ideal.proofs.Secret.{cond-both, accepted-code, same-box, same-escrow-rows, same-escrow-values}
+
+-- the value under one key may differ, and no heap
+abbrev pub unretrieved : ℕ → ℕ → Handle → Secrets
+unretrieved p q η =
+    record {
+      heap = λ i. false;
+      value = λ k. eqb (k .handle .0) (η .0) && (eqb (k .source) p && eqb (k .recipient) q);
+      none-empty = refl;
+    }
+
+module _ (p q : ℕ) (η : Handle) where
+  abbrev z : Secrets
+  z = unretrieved p q η
+
+  -- ---- one element on two states
+
+  -- the call does not hand the value out
+  abbrev Quiet : State → Call → Type 0
+  Quiet s c = (o : ℕ) → c ≡ retrieve p o η → caller s ≡ q → refusal s c ≡ 0 → ⊥
+
+  record IsKey (i j : ℕ) (h : Handle) : Type 0 where
+    source : i ≡ p
+    recipient : j ≡ q
+    handle : h ≡ η
+
+  is-key : (i j : ℕ) (h : Handle) → z .value (record { source = i; recipient = j; handle = h }) ≡ true → IsKey i j h
+  is-key i j h e =
+      let a = eqb-true (h .0) (η .0) (and-left _ _ e) in
+      let f = and-right (eqb (h .0) (η .0)) _ e in
+      record {
+        source = eqb-true i p (and-left _ _ f);
+        recipient = eqb-true j q (and-right (eqb i p) _ f);
+        handle = λ m. record { 0 = a m };
+      }
+
+  none-told : {s t : State} {c : Call} → Quiet s c → NoneTold z s t c
+  none-told {s} {t} {c} h =
+      record {
+        attests = λ g. absurd (false≢true g);
+        protects = λ g. absurd (false≢true g);
+        retrieves = λ g i o a e r.
+            by-cases (z .value (record { source = i; recipient = caller s; handle = a }))
+            (λ y. let k = is-key i (caller s) a y in
+            absurd (h o (e ∙ (λ m. retrieve (k .source m) o (k .handle m))) (k .recipient) r))
+            (λ n. n);
+      }
+
+  record Both (o v : Outcome) : Type 0 where
+    state : SameBut z (o .state) (v .state)
+    answer : o .answer ≡ v .answer
+
+  module _ {s t : State} (k : SameBut z s t) where
+    both-refuse : (code number used : ℕ) → Both (refuse s code number used) (refuse t code number used)
+    unfolding refuse
+    both-refuse code number used = record { state = k; answer = refl }
+
+    both-settle : (n : ℕ) (c : Call) (u : ℕ) → Quiet s c → refusal s c ≡ n → Both (settle n s c u) (settle n t c u)
+    unfolding settle accepted
+    both-settle zero c u h r =
+        let a = none-told h in
+        let same = same-call c in
+        let number = same-number z k same a r in
+        let shown = same-shown z k same refl in
+        record {
+          state = same-effect z k same a r;
+          answer = λ m. record { code = 0; number = number m; used = u; shown = shown m };
+        }
+    both-settle (suc n) c u h r = both-refuse (suc n) 0 u
+
+    both-reading : (r : Reading) → ((c : Call) (u : ℕ) → r ≡ whole c u → Quiet s c) → Both (onReading s r) (onReading t r)
+    unfolding onReading step
+    both-reading (refused code number) h = both-refuse code number 0
+    both-reading (whole c u) h =
+        let a = h c u refl in
+        rw (← same-refusal z k (same-call c) (none-told a)) (both-settle (refusal s c) c u a refl)
+
+    both-element : (e : Element) → (eqb (e .outputSize) 1024 ≡ true → (c : Call) (u : ℕ) → read (e .bytes) ≡ whole c u → Quiet s c)
+        → Both (stepElement s e) (stepElement t e)
+    unfolding stepElement stepOn
+    both-element e h =
+        cond-both (λ o v. Both o v) (eqb (e .outputSize) 1024) (λ x. both-reading (read (e .bytes)) (h x)) (λ _. both-refuse 15 0 0)
+
+  -- ---- the tables of both states
+
+  same-heaps : {s t : State} → SameBut z s t → s .heaps ≡ t .heaps
+  same-heaps {s} {t} k = ext-getD [] (s .heaps) (t .heaps) (k .heaps .places) (λ i _. k .heaps .open-places i refl)
+
+  only-value : {s t : State} → SameBut z s t → Valid s → Valid t → OnlyValue p q η (tables s) (tables t)
+  unfolding tables boxRecord isRow
+  only-value k v w =
+      record {
+        box = same-box z k;
+        heaps = rw (same-heaps k);
+        shared = k .shared;
+        logRows = rw (k .log);
+        logValues = rw (k .log);
+        escrowRows = same-escrow-rows z k;
+        escrowValues = same-escrow-values z k v w;
+      }
+
+  -- ---- and from tables to states
+
+  same-entries : (vs ws : List ℕ) (rs : List EscrowRow) → length vs ≡ length ws
+      → ((k : ℕ) → k < length rs
+      → let r = getD rs k (escrowTable .blank) in isRow η p q r ≡ false → part vs (r .first) (r .length) ≡ part ws (r .first) (r .length))
+      → SameEscrow (z .value) (entriesOf escrowTable vs rs) (entriesOf escrowTable ws rs)
+  unfolding entriesOf isRow
+  same-entries vs ws [] n h = no-entries
+  same-entries vs ws (r ∷ rs) n h =
+      let one : SameEntry (z .value) (entryOf escrowTable vs r) (entryOf escrowTable ws r) =
+      record { key = refl; size = length-part vs ws (r .first) (r .length) n; value = h 0 (omega arith) } in
+      entry one (same-entries vs ws rs n (λ k l. h (suc k) (omega arith)))
+
+  same-states : {t u : Tables} → Sound t 1024 → Sound u 1024 → OnlyValue p q η t u → SameBut z (stateOf t) (stateOf u)
+  unfolding stateOf
+  same-states {t} {u} x y o =
+      let used : usedEscrow t ≡ usedEscrow u = rw (o .box, o .escrowRows) in
+      let rows = t .box .escrow .rows in
+      let n : length (t .escrowValues) ≡ length (u .escrowValues) =
+      facts t 1024 x .escrow .value-count ∙ sym (facts u 1024 y .escrow .value-count) in
+      record {
+        identities = rw (o .box);
+        running = rw (o .box);
+        heaps = rw (o .heaps) (record { places = refl; sizes = λ _. refl; open-places = λ _ _. refl });
+        shared = o .shared;
+        log = rw (o .box, o .logRows, o .logValues);
+        escrow =
+            subst (λ rs. SameEscrow (z .value) (entriesOf escrowTable (t .escrowValues) (usedEscrow t)) (entriesOf escrowTable (u .escrowValues) rs)) used
+            (same-entries (t .escrowValues) (u .escrowValues) (usedEscrow t) n
+            (λ k l.
+            let b : k < rows = omega (arith, length-take rows (t .escrowRows)) in
+            rw (getD-take rows (t .escrowRows) k (escrowTable .blank) b) (o .escrowValues k b)));
+      }
+
+  -- ---- runs
+
+  -- the events of an element are told by the box record, the heaps and the answer
+  same-events-on : (t u : Tables) (r w : Result) (c : Call) → t .box ≡ u .box → t .heaps ≡ u .heaps → r .answer ≡ w .answer
+      → r .tables .box ≡ w .tables .box → r .tables .heaps ≡ w .tables .heaps → eventOn t r c ≡ eventOn u w c
+  unfolding eventOn eventOf principalIn
+  same-events-on t u r w (create p i) a b d e f = refl
+  same-events-on t u r w (start p) a b d e f = refl
+  same-events-on t u r w yield a b d e f = refl
+  same-events-on t u r w exit a b d e f = refl
+  same-events-on t u r w (heapWrite p o v) a b d e f = refl
+  same-events-on t u r w (heapRead p o n) a b d e f = refl
+  same-events-on t u r w (sharedWrite o v) a b d e f = refl
+  same-events-on t u r w (sharedRead o n) a b d e f = refl
+  same-events-on t u r w (attest o n) a b d e f = rw (a, b, d)
+  same-events-on t u r w (check i g v) a b d e f = rw (a, d)
+  same-events-on t u r w (protect i o n x) a b d e f = rw (a, b, d)
+  same-events-on t u r w (retrieve i o h) a b d e f = rw (a, d, e, f)
+  same-events-on t u r w report a b d e f = refl
+
+  same-events : (t u : Tables) (r w : Result) (y : Reading) → t .box ≡ u .box → t .heaps ≡ u .heaps → r .answer ≡ w .answer
+      → r .tables .box ≡ w .tables .box → r .tables .heaps ≡ w .tables .heaps → events t r y ≡ events u w y
+  unfolding events
+  same-events t u r w (refused code number) a b d e f = refl
+  same-events t u r w (whole c used) a b d e f =
+      let n = same-events-on t u r w c a b d e f in λ m. cond (eqb (d m .code) 15) [] (n m)
+
+  never-later : (t : Tables) (e : Element) (es : List Element) → NeverRetrieved callOn p q η t (e ∷ es)
+      → NeverRetrieved callOn p q η (callOn t e .tables) es
+  unfolding tablesFrom elementAt
+  never-later t e es h k l r =
+      h (suc k) (omega arith)
+      (record { offset = r .offset; used = r .used; reads = r .reads; by = r .by; accepts = r .accepts })
+
+  quiet : (s : State) (e : Element) (es : List Element) → Valid s → NeverRetrieved callOn p q η (tables s) (e ∷ es)
+      → eqb (e .outputSize) 1024 ≡ true → (c : Call) (u : ℕ) → read (e .bytes) ≡ whole c u → Quiet s c
+  unfolding tablesFrom elementAt tables boxRecord
+  quiet s e es v h x c u y o is by r =
+      h 0 (omega arith)
+      (record {
+        offset = o;
+        used = u;
+        reads = y ∙ ap (λ d. whole d u) is;
+        by = by;
+        accepts = accepted-code s e c u v x y r;
+      })
+
+  pub run : (es : List Element) (s t : State) → Valid s → Valid t → SameBut z s t → NeverRetrieved callOn p q η (tables s) es
+      → AgreeBut callOn p q η (tables s) (tables t) es
+  unfolding answersFrom behaviourFrom tablesFrom
+  run [] s t v w k h = record { answers = refl; events = refl; end = only-value k v w }
+  run (e ∷ es) s t v w k h =
+      let b = both-element k e (quiet s e es v h) in
+      let s′ = stepElement s e .state in
+      let t′ = stepElement t e .state in
+      let i : callOn (tables s) e .tables ≡ tables s′ = unfold laid in ap (λ r. r .tables) (call-is s e v) in
+      let j : callOn (tables t) e .tables ≡ tables t′ = unfold laid in ap (λ r. r .tables) (call-is t e w) in
+      let a : callOn (tables s) e .answer ≡ callOn (tables t) e .answer =
+      unfold laid in ap (λ r. r .answer) (call-is s e v) ∙ b .answer ∙ ap (λ r. r .answer) (sym (call-is t e w)) in
+      let v′ = valid-step s e v in
+      let w′ = valid-step t e w in
+      let rest : AgreeBut callOn p q η (callOn (tables s) e .tables) (callOn (tables t) e .tables) es =
+      subst₂ (λ x y. AgreeBut callOn p q η x y es) (sym i) (sym j)
+      (run es s′ t′ v′ w′ (b .state) (subst (λ x. NeverRetrieved callOn p q η x es) i (never-later (tables s) e es h))) in
+      let before = only-value k v w in
+      let after = subst₂ (λ x y. OnlyValue p q η x y) (sym i) (sym j) (only-value (b .state) v′ w′) in
+      let one =
+      same-events (tables s) (tables t) (callOn (tables s) e) (callOn (tables t) e) (read (e .bytes)) (before .box) (before .heaps) a
+      (after .box) (after .heaps) in
+      record {
+        answers = λ m. a m ∷ rest .answers m;
+        events = λ m. one m ++ rest .events m;
+        end = rest .end;
+      }
+
+pub lemma3 : Lemma3 callOn
+lemma3 p q η t u es x y o h =
+    let i = tables-state t 1024 x in
+    let j = tables-state u 1024 y in
+    subst₂ (λ a b. AgreeBut callOn p q η a b es) i j
+    (run p q η es (stateOf t) (stateOf u) (valid-sound t 1024 x) (valid-sound u 1024 y) (same-states p q η x y o)
+    (subst (λ a. NeverRetrieved callOn p q η a es) (sym i) h))
