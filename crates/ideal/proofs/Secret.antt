@@ -42,9 +42,9 @@ inside-zero G = refl
 abbrev pub held : (ℕ → Bool) → Secrets
 held G =
     record {
-      heap = inside G;
+      heap = λ _. inside G;
       value = λ k. inside G (k .source) && inside G (k .recipient);
-      none-empty = inside-zero G;
+      none-empty = λ _. inside-zero G;
     }
 
 -- the premise at a call, on the states

@@ -38,17 +38,17 @@ length-part m k o n e = simp (length-take, length-drop, e)
 
 -- ---- the relation
 
--- what may differ: the heaps of places with some identities, and escrow values under some keys
+-- what may differ: the heaps of some places with some identities, and escrow values under some keys
 pub record Secrets : Type 0 where
-  pub heap : ℕ → Bool
+  pub heap : (place identity : ℕ) → Bool
   pub value : EscrowKey → Bool
-  pub none-empty : heap 0 ≡ false
+  pub none-empty : (place : ℕ) → heap place 0 ≡ false
 
 -- the heaps of two states, where the places' identities are `is`
 pub record SameHeaps (z : Secrets) (is : List ℕ) (hs ks : List (List ℕ)) : Type 0 where
   pub places : length hs ≡ length ks
   pub sizes : (p : ℕ) → length (getD hs p []) ≡ length (getD ks p [])
-  pub open-places : (p : ℕ) → z .heap (getD is p 0) ≡ false → getD hs p [] ≡ getD ks p []
+  pub open-places : (p : ℕ) → z .heap p (getD is p 0) ≡ false → getD hs p [] ≡ getD ks p []
 
 -- two states that differ in secrets alone
 pub record SameBut (z : Secrets) (s t : State) : Type 0 where
@@ -73,15 +73,15 @@ same-state z s =
 -- two calls made on s and on a state like it
 pub data AlikeCalls (z : Secrets) (s : State) : Call → Call → Type 0 where
   same-call : (c : Call) → AlikeCalls z s c c
-  other-call : (p o : ℕ) (v w : List ℕ) → z .heap (caller s) ≡ true → length v ≡ length w
+  other-call : (p o : ℕ) (v w : List ℕ) → z .heap (s .running) (caller s) ≡ true → length v ≡ length w
       → AlikeCalls z s (heapWrite p o v) (heapWrite p o w)
 
 -- a call that makes no secret known: neither by an attest or a protect, nor by a retrieve into an open heap
 pub record NoneTold (z : Secrets) (s t : State) (c : Call) : Type 0 where
-  pub attests : z .heap (caller s) ≡ true → (o n : ℕ) → c ≡ attest o n → o + n ≤ 256 → ownPart s o n ≡ ownPart t o n
-  pub protects : z .heap (caller s) ≡ true → (i o n : ℕ) (d : Draw) → c ≡ protect i o n d
+  pub attests : z .heap (s .running) (caller s) ≡ true → (o n : ℕ) → c ≡ attest o n → o + n ≤ 256 → ownPart s o n ≡ ownPart t o n
+  pub protects : z .heap (s .running) (caller s) ≡ true → (i o n : ℕ) (d : Draw) → c ≡ protect i o n d
       → z .value (protected s i o n d .key) ≡ false → refusal s c ≡ 0 → ownPart s o n ≡ ownPart t o n
-  pub retrieves : z .heap (caller s) ≡ false → (i o : ℕ) (h : Handle) → c ≡ retrieve i o h → refusal s c ≡ 0
+  pub retrieves : z .heap (s .running) (caller s) ≡ false → (i o : ℕ) (h : Handle) → c ≡ retrieve i o h → refusal s c ≡ 0
       → z .value (record { source = i; recipient = caller s; handle = h }) ≡ false
 
 module _ (z : Secrets) {s t : State} (k : SameBut z s t) where
@@ -109,16 +109,16 @@ module _ (z : Secrets) {s t : State} (k : SameBut z s t) where
 
   -- where the running heap is open
 
-  same-heap : z .heap (caller s) ≡ false → heapAt s (s .running) ≡ heapAt t (s .running)
+  same-heap : z .heap (s .running) (caller s) ≡ false → heapAt s (s .running) ≡ heapAt t (s .running)
   same-heap g = k .heaps .open-places (s .running) g
 
-  same-own : (o n : ℕ) → z .heap (caller s) ≡ false → ownPart s o n ≡ ownPart t o n
+  same-own : (o n : ℕ) → z .heap (s .running) (caller s) ≡ false → ownPart s o n ≡ ownPart t o n
   unfolding ownPart
   same-own o n g = rw (← k .running, same-heap g)
 
   -- ---- the parts of an effect
 
-  with-heap : (x y : List ℕ) → length x ≡ length y → (z .heap (caller s) ≡ false → x ≡ y)
+  with-heap : (x y : List ℕ) → length x ≡ length y → (z .heap (s .running) (caller s) ≡ false → x ≡ y)
       → SameBut z (withHeap s x) (withHeap t y)
   unfolding withHeap
   with-heap x y n e =
@@ -211,7 +211,7 @@ module _ (z : Secrets) {s t : State} (k : SameBut z s t) where
         escrow = same-more (z .value) (k .escrow) e;
       }
 
-  with-written : (o : ℕ) (v w : List ℕ) → length v ≡ length w → (z .heap (caller s) ≡ false → v ≡ w)
+  with-written : (o : ℕ) (v w : List ℕ) → length v ≡ length w → (z .heap (s .running) (caller s) ≡ false → v ≡ w)
       → SameBut z (written s o v) (written t o w)
   unfolding written
   with-written o v w n e =
@@ -224,12 +224,12 @@ module _ (z : Secrets) {s t : State} (k : SameBut z s t) where
   unfolding refusal tests vacant
   accepted-create p i r =
       let empty = not-false (vacant s p) (failed 6 _ _ (passed 5 (ltb 15 p) _ r)) in
-      k .heaps .open-places p (rw (eqb-true (identityAt s p) 0 empty) (z .none-empty))
+      k .heaps .open-places p (rw (eqb-true (identityAt s p) 0 empty) (z .none-empty p))
 
   known-attest : (o n : ℕ) → NoneTold z s t (attest o n) → beyond 256 o n ≡ false → ownPart s o n ≡ ownPart t o n
   unfolding beyond
   known-attest o n a e =
-      by-cases (z .heap (caller s)) (λ g. a .attests g o n refl (ltb-false 256 (o + n) e)) (λ g. same-own o n g)
+      by-cases (z .heap (s .running) (caller s)) (λ g. a .attests g o n refl (ltb-false 256 (o + n) e)) (λ g. same-own o n g)
 
   accepted-attest : (o n : ℕ) → NoneTold z s t (attest o n) → refusal s (attest o n) ≡ 0 → ownPart s o n ≡ ownPart t o n
   unfolding refusal tests
@@ -243,7 +243,7 @@ module _ (z : Secrets) {s t : State} (k : SameBut z s t) where
         key = rw (same-caller, same-handle (z .value) n d (k .escrow));
         size = same-size o n;
         value = λ e.
-            by-cases (z .heap (caller s)) (λ g. a .protects g i o n d refl e r) (λ g. same-own o n g);
+            by-cases (z .heap (s .running) (caller s)) (λ g. a .protects g i o n d refl e r) (λ g. same-own o n g);
       }
 
   -- ---- refusals
@@ -326,7 +326,7 @@ module _ (z : Secrets) {s t : State} (k : SameBut z s t) where
   same-number (same-call report) a r = rw (k .identities, k .log, same-count (z .value) (k .escrow))
   same-number (other-call p o v w g n) a r = n
 
-  pub same-shown : {c d : Call} → AlikeCalls z s c d → z .heap (caller s) ≡ false → shown s c ≡ shown t d
+  pub same-shown : {c d : Call} → AlikeCalls z s c d → z .heap (s .running) (caller s) ≡ false → shown s c ≡ shown t d
   unfolding shown
   same-shown (same-call (create p i)) g = refl
   same-shown (same-call (start p)) g = refl

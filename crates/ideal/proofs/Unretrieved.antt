@@ -31,9 +31,9 @@ use Rattle.ideal.proofs.Secret.{cond-both, accepted-code, same-box, sam
 abbrev pub unretrieved : ℕ → ℕ → Handle → Secrets
 unretrieved p q η =
     record {
-      heap = λ i. false;
+      heap = λ _ _. false;
       value = λ k. eqb (k .handle .0) (η .0) && (eqb (k .source) p && eqb (k .recipient) q);
-      none-empty = refl;
+      none-empty = λ _. refl;
     }
 
 module _ (p q : ℕ) (η : Handle) where
