@@ -38,4 +38,6 @@ pub mod Differing
 pub mod Examined
 pub mod Behaviours
 pub mod Paper
+pub mod SameStep
 pub mod Unretrieved
+pub mod ServiceLife

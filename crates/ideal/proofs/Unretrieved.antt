@@ -25,7 +25,8 @@ use Rattle.ideal.proofs.Facts.{facts}
 use Rattle.ideal.proofs.Laid.{stepElement, valid-sound, tables-state, valid-step, call-is}
 use Rattle.ideal.proofs.TwoEscrows.{SameEntry, SameEscrow, no-entries, entry}
 use Rattle.ideal.proofs.TwoStates.{Secrets, SameHeaps, SameBut, length-part, AlikeCalls, same-call, NoneTold, same-refusal, same-effect, same-number, same-shown}
-use Rattle.ideal.proofs.Secret.{cond-both, accepted-code, same-box, same-escrow-rows, same-escrow-values}
+use Rattle.ideal.proofs.SameStep.{Both, both-element}
+use Rattle.ideal.proofs.Secret.{accepted-code, same-box, same-escrow-rows, same-escrow-values}
 
 -- the value under one key may differ, and no heap
 abbrev pub unretrieved : ℕ → ℕ → Handle → Secrets
@@ -72,41 +73,6 @@ module _ (p q : ℕ) (η : Handle) where
             absurd (h o (e ∙ (λ m. retrieve (k .source m) o (k .handle m))) (k .recipient) r))
             (λ n. n);
       }
-
-  record Both (o v : Outcome) : Type 0 where
-    state : SameBut z (o .state) (v .state)
-    answer : o .answer ≡ v .answer
-
-  module _ {s t : State} (k : SameBut z s t) where
-    both-refuse : (code number used : ℕ) → Both (refuse s code number used) (refuse t code number used)
-    unfolding refuse
-    both-refuse code number used = record { state = k; answer = refl }
-
-    both-settle : (n : ℕ) (c : Call) (u : ℕ) → Quiet s c → refusal s c ≡ n → Both (settle n s c u) (settle n t c u)
-    unfolding settle accepted
-    both-settle zero c u h r =
-        let a = none-told h in
-        let same = same-call c in
-        let number = same-number z k same a r in
-        let shown = same-shown z k same refl in
-        record {
-          state = same-effect z k same a r;
-          answer = λ m. record { code = 0; number = number m; used = u; shown = shown m };
-        }
-    both-settle (suc n) c u h r = both-refuse (suc n) 0 u
-
-    both-reading : (r : Reading) → ((c : Call) (u : ℕ) → r ≡ whole c u → Quiet s c) → Both (onReading s r) (onReading t r)
-    unfolding onReading step
-    both-reading (refused code number) h = both-refuse code number 0
-    both-reading (whole c u) h =
-        let a = h c u refl in
-        rw (← same-refusal z k (same-call c) (none-told a)) (both-settle (refusal s c) c u a refl)
-
-    both-element : (e : Element) → (eqb (e .outputSize) 1024 ≡ true → (c : Call) (u : ℕ) → read (e .bytes) ≡ whole c u → Quiet s c)
-        → Both (stepElement s e) (stepElement t e)
-    unfolding stepElement stepOn
-    both-element e h =
-        cond-both (λ o v. Both o v) (eqb (e .outputSize) 1024) (λ x. both-reading (read (e .bytes)) (h x)) (λ _. both-refuse 15 0 0)
 
   -- ---- the tables of both states
 
@@ -209,16 +175,16 @@ module _ (p q : ℕ) (η : Handle) where
 
   pub run : (es : List Element) (s t : State) → Valid s → Valid t → SameBut z s t → NeverRetrieved callOn p q η (tables s) es
       → AgreeBut callOn p q η (tables s) (tables t) es
-  unfolding answersFrom behaviourFrom tablesFrom
+  unfolding answersFrom behaviourFrom tablesFrom laid
   run [] s t v w k h = record { answers = refl; events = refl; end = only-value k v w }
   run (e ∷ es) s t v w k h =
-      let b = both-element k e (quiet s e es v h) in
+      let b = both-element z k refl e (λ x c u y. none-told (quiet s e es v h x c u y)) in
       let s′ = stepElement s e .state in
       let t′ = stepElement t e .state in
-      let i : callOn (tables s) e .tables ≡ tables s′ = unfold laid in ap (λ r. r .tables) (call-is s e v) in
-      let j : callOn (tables t) e .tables ≡ tables t′ = unfold laid in ap (λ r. r .tables) (call-is t e w) in
+      let i : callOn (tables s) e .tables ≡ tables s′ = ap (λ r. r .tables) (call-is s e v) in
+      let j : callOn (tables t) e .tables ≡ tables t′ = ap (λ r. r .tables) (call-is t e w) in
       let a : callOn (tables s) e .answer ≡ callOn (tables t) e .answer =
-      unfold laid in ap (λ r. r .answer) (call-is s e v) ∙ b .answer ∙ ap (λ r. r .answer) (sym (call-is t e w)) in
+      ap (λ r. r .answer) (call-is s e v) ∙ b .answer ∙ ap (λ r. r .answer) (sym (call-is t e w)) in
       let v′ = valid-step s e v in
       let w′ = valid-step t e w in
       let rest : AgreeBut callOn p q η (callOn (tables s) e .tables) (callOn (tables t) e .tables) es =

@@ -15,3 +15,4 @@ pub mod Witness
 pub mod Exam
 pub mod Fit
 pub mod Paper
+pub mod ServiceLife

@@ -1,0 +1,182 @@
+-- Heaps are apart, a yield keeps a heap, an exit clears it: the statements of specs/ServiceLife.antt. Assumes nothing.
+use Prim.Native.Nat.{ℕ, zero, suc, _*_, _≤_, _<_}
+use mathlib.Core.Path.{_≡_, refl, sym, ap, _∙_, subst, subst₂}
+use mathlib.Core.Bool.{Bool, true, false, not, _&&_, cond, false≢true}
+use mathlib.Core.List.{List, [], _∷_}
+use native.Mathlib.Omega.{arith}
+use lib.ListN.{length, getD}
+use lib.Seq.{getD-set-same, getD-set-other}
+use lib.Dec.{eqb, ltb}
+use borrow.Author.Tests.{eqb-true, eqb-false, ltb-true, ltb-false}
+use Rattle.record.specs.Call.{Call, create, start, yield, exit, heapWrite, heapRead, sharedWrite, sharedRead, attest, check, protect, retrieve, report}
+use Rattle.record.specs.Read.{whole, read}
+use Rattle.record.specs.Write.{filled}
+use Rattle.ideal.specs.State.{State, cleared, identityAt, heapAt, any}
+use Rattle.ideal.specs.Step.{idle, accepted, refusal, tests, effect, withHeap, withRunning, withIdentity, withShared, withLog, withEscrow, written}
+use Rattle.ideal.specs.Tables.{Tables, tables, boxRecord, stateOf}
+use Rattle.ideal.specs.Soundness.{sizesRight, sound}
+use Rattle.ideal.specs.Box.{Element, Result, laid, unsound, callOn, elementAt, tablesBefore}
+use Rattle.ideal.specs.Layouts.{Sound}
+use Rattle.ideal.specs.Refusals.{oneOf}
+use Rattle.ideal.specs.Valid.{Valid}
+use Rattle.ideal.specs.ServiceLife.{heapOf, OnlyOtherHeaps, WritesOwnHeap, ReadsOwnHeap, RunsAt, WritesAt, YieldKeeps, ExitClears}
+use Rattle.ideal.proofs.Bools.{by-cases, clash, and-left, and-right}
+use Rattle.ideal.proofs.Chain.{failed}
+use Rattle.ideal.proofs.Kept.{busy}
+use Rattle.ideal.proofs.Laid.{stepElement, valid-sound, tables-state, valid-step, call-is}
+use Rattle.ideal.proofs.Hosted.{heap-is}
+use Rattle.ideal.proofs.Runs.{stateBefore, valid-before, tables-before, running-before, tables-next, Accepted, Moved, stays, moves, moved, accepted-call, accepted-at, accepts-at, state-next, state-after}
+
+-- ---- what an accepted call does to the heap of place p
+
+data Touch (s : State) (c : Call) (p : ℕ) : Type 0 where
+  keeps : heapAt (effect s c) p ≡ heapAt s p → Touch s c p
+  clears : s .running ≡ p → heapAt (effect s c) p ≡ cleared → Touch s c p
+  writes : s .running ≡ p → oneOf (5 ∷ 12 ∷ []) (filled c .kind) ≡ true → Touch s c p
+
+-- the running heap with something in it
+others-kept : (s : State) (h : List ℕ) (p : ℕ) → eqb p (s .running) ≡ false → heapAt (withHeap s h) p ≡ heapAt s p
+unfolding withHeap
+others-kept s h p e = getD-set-other (s .heaps) (s .running) p h [] (eqb-false p (s .running) e)
+
+own-set : (s : State) (h : List ℕ) → Valid s → s .running < 16 → heapAt (withHeap s h) (s .running) ≡ h
+unfolding withHeap
+own-set s h v l = getD-set-same (s .heaps) (s .running) h [] (omega (arith, v .heaps))
+
+module _ (s : State) (p : ℕ) (v : Valid s) where
+  touch-exit : refusal s exit ≡ 0 → Touch s exit p
+  unfolding refusal tests effect withIdentity withRunning
+  touch-exit r =
+      by-cases (eqb p (s .running))
+      (λ e. let q = eqb-true p (s .running) e in
+      clears (sym q) (rw q (own-set s cleared v (busy s v (failed 3 _ _ r)))))
+      (λ e. keeps (others-kept s cleared p e))
+
+  touch : (c : Call) → refusal s c ≡ 0 → Touch s c p
+  unfolding effect withRunning withIdentity withShared withLog withEscrow written oneOf any filled
+  touch (create q i) r = keeps refl
+  touch (start q) r = keeps refl
+  touch yield r = keeps refl
+  touch exit r = touch-exit r
+  touch (heapWrite q o w) r =
+      by-cases (eqb p (s .running)) (λ e. writes (sym (eqb-true p (s .running) e)) refl) (λ e. keeps (others-kept s _ p e))
+  touch (heapRead q o n) r = keeps refl
+  touch (sharedWrite o w) r = keeps refl
+  touch (sharedRead o n) r = keeps refl
+  touch (attest o n) r = keeps refl
+  touch (check i g w) r = keeps refl
+  touch (protect i o n d) r = keeps refl
+  touch (retrieve i o h) r =
+      by-cases (eqb p (s .running)) (λ e. writes (sym (eqb-true p (s .running) e)) refl) (λ e. keeps (others-kept s _ p e))
+  touch report r = keeps refl
+
+-- ---- a call of a list
+
+-- what the call at an index does to the heap of place p
+data TouchAt (es : List Element) (p k : ℕ) : Type 0 where
+  keeps : heapOf (tablesBefore callOn es (suc k)) p ≡ heapOf (tablesBefore callOn es k) p → TouchAt es p k
+  clears : RunsAt callOn es p k → heapOf (tablesBefore callOn es (suc k)) p ≡ cleared → TouchAt es p k
+  writes : WritesAt callOn es p k → TouchAt es p k
+
+module _ (es : List Element) (p : ℕ) (b : p < 16) where
+  heap-before : (k : ℕ) → heapOf (tablesBefore callOn es k) p ≡ heapAt (stateBefore es k) p
+  heap-before k = ap (λ t. heapOf t p) (tables-before es k) ∙ heap-is (stateBefore es k) (valid-before es k) p b
+
+  touch-at : (k : ℕ) → TouchAt es p k
+  touch-at k =
+      elim (moved (stateBefore es k) (elementAt es k)) [
+        | stays q ↦ keeps (heap-before (suc k) ∙ ap (λ s. heapAt s p) (state-next es k ∙ q) ∙ sym (heap-before k))
+        | moves c used a ↦ let after = heap-before (suc k) ∙ ap (λ s. heapAt s p) (state-after es k c used a) in
+            elim (touch (stateBefore es k) p (valid-before es k) c (a .passes)) [
+              | keeps q ↦ keeps (after ∙ q ∙ sym (heap-before k))
+              | clears e q ↦ clears (running-before es k ∙ e) (after ∙ q)
+              | writes e q ↦ writes
+                  (record {
+                    call = c;
+                    used = used;
+                    accepts = (a .reads, accepts-at es k c used a);
+                    kind = q;
+                    by = running-before es k ∙ e;
+                  })
+            ]
+      ]
+
+  -- while p doesn't run
+  away : (k m : ℕ) → k ≤ m → ((j : ℕ) → k ≤ j → j < m → RunsAt callOn es p j → ⊥)
+      → heapOf (tablesBefore callOn es m) p ≡ heapOf (tablesBefore callOn es k) p
+  away k zero l h = let e : k ≡ 0 = omega arith in rw e
+  away k (suc m) l h =
+      by-cases (eqb k (suc m)) (λ e. rw (eqb-true k (suc m) e))
+      (λ e. let n = eqb-false k (suc m) e in
+      let rest = away k m (omega arith) (λ j x y. h j x (omega arith)) in
+      elim (touch-at m) [
+        | keeps q ↦ q ∙ rest
+        | clears r q ↦ absurd (h m (omega arith) (omega arith) r)
+        | writes w ↦ absurd (h m (omega arith) (omega arith) (w .by))
+      ])
+
+  -- from where the heap is clear, while p writes nothing there
+  clear-until : (k m : ℕ) → k < m → heapOf (tablesBefore callOn es (suc k)) p ≡ cleared
+      → ((j : ℕ) → k < j → j < m → WritesAt callOn es p j → ⊥) → heapOf (tablesBefore callOn es m) p ≡ cleared
+  clear-until k zero l c h = absurd (omega arith)
+  clear-until k (suc m) l c h =
+      by-cases (eqb k m) (λ e. rw (← eqb-true k m e) c)
+      (λ e. let n = eqb-false k m e in
+      let rest = clear-until k m (omega arith) c (λ j x y. h j x (omega arith)) in
+      elim (touch-at m) [
+        | keeps q ↦ q ∙ rest
+        | clears r q ↦ q
+        | writes w ↦ absurd (h m (omega arith) (omega arith) w)
+      ])
+
+-- the place that runs where a call is accepted that only a service can make
+runs-below : (es : List Element) (p k : ℕ) → RunsAt callOn es p k → idle (stateBefore es k) ≡ false → p < 16
+runs-below es p k r i = let l = busy (stateBefore es k) (valid-before es k) i in let e = running-before es k in omega arith
+
+pub yield-keeps : YieldKeeps callOn
+unfolding refusal tests effect withRunning
+yield-keeps es p k m used l y r h =
+    let a = accepted-at es k yield used (y .0) (y .1) in
+    let b = runs-below es p k r (failed 3 _ _ (a .passes)) in
+    away es p b (suc k) m l (λ j x z. h j x z)
+    ∙ heap-before es p b (suc k) ∙ ap (λ s. heapAt s p) (state-after es k yield used a) ∙ sym (heap-before es p b k)
+
+pub exit-clears : ExitClears callOn
+unfolding refusal tests effect withRunning withIdentity
+exit-clears es p k m used l y r h =
+    let s = stateBefore es k in
+    let a = accepted-at es k exit used (y .0) (y .1) in
+    let i = failed 3 _ _ (a .passes) in
+    let b = runs-below es p k r i in
+    let e : s .running ≡ p = sym (running-before es k) ∙ r in
+    let c : heapAt (effect s exit) p ≡ cleared = rw (← e) (own-set s cleared (valid-before es k) (busy s (valid-before es k) i)) in
+    clear-until es p b k m l (heap-before es p b (suc k) ∙ ap (λ x. heapAt x p) (state-after es k exit used a) ∙ c) h
+
+-- ---- any box
+
+own-only : (s : State) (e : Element) (p : ℕ) → Valid s → p < 16 → (s .running ≡ p → ⊥)
+    → heapOf (callOn (tables s) e .tables) p ≡ heapOf (tables s) p
+unfolding laid accepted
+own-only s e p v b n =
+    let s′ = stepElement s e .state in
+    let same : heapAt s′ p ≡ heapAt s p =
+    elim (moved s e) [
+      | stays q ↦ ap (λ x. heapAt x p) q
+      | moves c used a ↦ let after = ap (λ o. heapAt (o .state) p) (accepted-call s e c used (a .reads) (a .sized) (a .passes)) in
+          elim (touch s p v c (a .passes)) [
+            | keeps q ↦ after ∙ q
+            | clears r q ↦ absurd (n r)
+            | writes r q ↦ absurd (n r)
+          ]
+    ] in
+    ap (λ r. heapOf (r .tables) p) (call-is s e v) ∙ heap-is s′ (valid-step s e v) p b ∙ same ∙ sym (heap-is s v p b)
+
+pub writes-own-heap : WritesOwnHeap callOn
+unfolding callOn unsound stateOf
+writes-own-heap t e p b n =
+    let m = e .outputSize in
+    by-cases (sizesRight t m && sound t)
+    (λ y.
+    let h : Sound t m = record { sizes = and-left _ _ y; box = and-right (sizesRight t m) _ y } in
+    subst (λ x. heapOf (callOn x e .tables) p ≡ heapOf x p) (tables-state t m h) (own-only (stateOf t) e p (valid-sound t m h) b n))
+    (λ y. rw y)
