@@ -41,3 +41,4 @@ pub mod Paper
 pub mod SameStep
 pub mod Unretrieved
 pub mod ServiceLife
+pub mod OwnHeapOnly
