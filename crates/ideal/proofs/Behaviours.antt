@@ -1,14 +1,12 @@
 -- The events of a behaviour and the calls that they are of, index by index. Assumes nothing.
 use Prim.Native.Nat.{ℕ, zero, suc, _+_, _≤_, _<_}
 use mathlib.Core.Path.{_≡_, refl, sym, ap, _∙_}
-use mathlib.Core.Bool.{Bool, true, false}
-use mathlib.Core.List.{List, [], _∷_, _++_}
-use mathlib.Core.Option.{Option, none, some}
+use mathlib.Core.List.{List, [], _∷_, _++_, append-assoc}
+use mathlib.Core.Option.{some}
 use native.Mathlib.Omega.{arith}
 use lib.ListN.{length, take, length-append}
 use lib.Dec.{eqb, ltb}
 use borrow.Author.Tests.{ltb-true, ltb-false}
-use Rattle.record.specs.declared.Handle.{Handle}
 use Rattle.record.specs.Call.{Call, create, start, yield, exit, heapWrite, heapRead, sharedWrite, sharedRead, attest, check, protect, retrieve, report}
 use Rattle.record.specs.Read.{Reading, refused, whole, read, cut}
 use Rattle.ideal.specs.Tables.{Tables}
@@ -84,7 +82,7 @@ module _ (box : Tables → Element → Result) where
       call-from e es t ev (λ m g. call-of es (box t e .tables) m ev g) (events t (box t e) (read (e .bytes))) refl
       (few t (box t e) (read (e .bytes))) j h
 
-  past : (l α : List Event) (j : ℕ) → eventAt (l ++ α) (length l + j) ≡ eventAt α j
+  pub past : (l α : List Event) (j : ℕ) → eventAt (l ++ α) (length l + j) ≡ eventAt α j
   unfolding eventAt
   past [] α j = let e : 0 + j ≡ j = omega arith in ap (eventAt α) e
   past (x ∷ l) α j = let e : suc (length l) + j ≡ suc (length l + j) = omega arith in rw e (past l α j)
@@ -101,6 +99,20 @@ module _ (box : Tables → Element → Result) where
   event-of (e ∷ es) t (suc k) ev h =
       rw (more e es t k) (past (events t (box t e) (read (e .bytes))) _ (countAt (box t e .tables) es k))
       ∙ event-of es (box t e .tables) k ev h
+
+  pub in-list : (es : List Element) (t : Tables) (k : ℕ) (ev : Event) → eventsAt t es k ≡ ev ∷ [] → k < length es
+  unfolding tablesFrom elementAt
+  in-list [] t k ev h = absurd (none-at t k ev h)
+  in-list (e ∷ es) t zero ev h = omega arith
+  in-list (e ∷ es) t (suc k) ev h = let r = in-list es (box t e .tables) k ev h in omega arith
+
+  pub behaviour-append : (es fs : List Element) (t : Tables)
+      → behaviourFrom box t (es ++ fs) ≡ behaviourFrom box t es ++ behaviourFrom box (tablesFrom box t es) fs
+  unfolding behaviourFrom tablesFrom
+  behaviour-append [] fs t = refl
+  behaviour-append (e ∷ es) fs t =
+      ap (λ l. events t (box t e) (read (e .bytes)) ++ l) (behaviour-append es fs (box t e .tables))
+      ∙ sym (append-assoc (events t (box t e) (read (e .bytes))) _ _)
 
   -- ---- the order of events is that of their calls
 

@@ -42,3 +42,4 @@ pub mod SameStep
 pub mod Unretrieved
 pub mod ServiceLife
 pub mod OwnHeapOnly
+pub mod Schematic

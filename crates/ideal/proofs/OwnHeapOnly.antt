@@ -1,26 +1,26 @@
 -- A call tells nothing of the heaps of places that don't run: ReadsOwnHeap of specs/ServiceLife.antt. Assumes nothing.
 use Prim.Native.Nat.{ℕ, _<_}
-use mathlib.Core.Path.{_≡_, refl, sym, ap, _∙_, subst, subst₂}
-use mathlib.Core.Bool.{Bool, true, false, not, _&&_}
+use mathlib.Core.Path.{_≡_, refl, sym, ap, _∙_, subst₂}
+use mathlib.Core.Bool.{false, not, _&&_}
 use mathlib.Core.List.{List, [], _∷_}
 use native.Mathlib.Omega.{arith}
-use lib.ListN.{length, getD, List·getD-eq-default}
+use lib.ListN.{length, List·getD-eq-default}
 use lib.Dec.{eqb, ltb}
 use borrow.Author.Tests.{eqb-true, eq-eqb, ltb-true, ltb-false, not-false}
 use Rattle.record.specs.Call.{Call}
-use Rattle.ideal.specs.State.{EscrowKey, Escrowed, State, identityAt, heapAt, caller}
-use Rattle.ideal.specs.Tables.{Tables, tables, boxRecord, rowsOf, valuesOf, stateOf}
+use Rattle.ideal.specs.State.{Escrowed, State, identityAt, heapAt, caller}
+use Rattle.ideal.specs.Tables.{Tables, tables, boxRecord, stateOf}
 use Rattle.ideal.specs.Box.{Element, laid, callOn}
 use Rattle.ideal.specs.Layouts.{Sound}
 use Rattle.ideal.specs.Valid.{Valid}
 use Rattle.ideal.specs.ServiceLife.{heapOf, OnlyOtherHeaps, ReadsOwnHeap}
-use Rattle.ideal.proofs.Bools.{by-cases, clash, and-false, and-other, not-not, not-is}
+use Rattle.ideal.proofs.Bools.{by-cases, clash, and-false, and-other, not-is}
 use Rattle.ideal.proofs.Heaps.{chunks-length}
-use Rattle.ideal.proofs.Laid.{stepElement, valid-sound, tables-state, valid-step, call-is}
+use Rattle.ideal.proofs.Laid.{valid-sound, tables-state, valid-step, call-is}
 use Rattle.ideal.proofs.Hosted.{heap-is}
 use Rattle.ideal.proofs.TwoEscrows.{SameEscrow, no-entries, entry, same-escrow}
 use Rattle.ideal.proofs.TwoStates.{Secrets, SameBut, NoneTold}
-use Rattle.ideal.proofs.SameStep.{Both, both-element}
+use Rattle.ideal.proofs.SameStep.{both-element}
 use Rattle.ideal.proofs.Secret.{same-box, same-escrow-rows}
 
 -- the heaps of taken places other than p

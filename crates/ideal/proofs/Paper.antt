@@ -1,11 +1,11 @@
 -- The lemmas of specs/Paper.antt, proved of the box. Assumes nothing.
-use Prim.Native.Nat.{ℕ, zero, suc, _+_, _*_, _%_, _^_, _≤_, _<_}
+use Prim.Native.Nat.{ℕ, suc, _<_}
 use mathlib.Core.Path.{_≡_, refl, sym, ap, _∙_, subst}
 use mathlib.Core.Bool.{Bool, true, false, cond, false≢true}
-use mathlib.Core.List.{List, [], _∷_, _++_}
+use mathlib.Core.List.{List, [], _∷_}
 use mathlib.Core.Option.{Option, none, some}
 use native.Mathlib.Omega.{arith}
-use lib.ListN.{length, take}
+use lib.ListN.{length}
 use lib.Dec.{eqb, ltb}
 use borrow.Author.Tests.{eqb-true, eqb-false, eq-eqb, ne-eqb, ltb-true, ltb-false}
 use Rattle.fnv.specs.declared.Tag.{Tag}
@@ -13,13 +13,12 @@ use Rattle.record.specs.declared.Handle.{Handle}
 use Rattle.record.specs.declared.Draw.{Draw}
 use Rattle.record.specs.Call.{Call, create, start, yield, exit, heapWrite, heapRead, sharedWrite, sharedRead, attest, check, protect, retrieve, report}
 use Rattle.record.specs.Read.{Reading, refused, whole, read}
-use Rattle.ideal.specs.State.{State}
-use Rattle.ideal.specs.Step.{idle, tests, first, _then_, accept, refusal}
+use Rattle.ideal.specs.Step.{idle, tests, first, refusal}
 use Rattle.ideal.specs.Tables.{Tables, freshTables}
-use Rattle.ideal.specs.Box.{Element, Result, callOn, elementAt, tablesFrom, tablesAfter, tablesBefore, answerAt}
+use Rattle.ideal.specs.Box.{Element, Result, callOn, elementAt, tablesAfter, tablesBefore, answerAt}
 use Rattle.ideal.specs.Refusals.{callerIn, ownBytes}
 use Rattle.ideal.specs.Accuracy.{Earlier, LogsAt, ProtectsAt, HandsOut, Sized, candidate, handleUsed, FirstFree}
-use Rattle.ideal.specs.Paper.{Command, iattest, icheck, iprotect, iretrieve, Response, tag, truth, handle, value, fails, Event, principalIn, eventOf, eventOn, events, behaviour, behaviourFrom, eventAt, Occurs, needsService, Lemma1-1, Lemma1-2, Lemma2-1, Lemma2-2, OnlyServices, Gives, Assumption-i, Assumption-ii, Assumption-iii}
+use Rattle.ideal.specs.Paper.{Command, iattest, icheck, iprotect, iretrieve, Response, tag, truth, handle, value, fails, Event, principalIn, eventOf, eventOn, events, behaviour, eventAt, Occurs, needsService, Lemma1-1, Lemma1-2, Lemma2-1, Lemma2-2, OnlyServices, Gives, Assumption-i, Assumption-ii, Assumption-iii}
 use Rattle.ideal.proofs.Bools.{by-cases, clash}
 use Rattle.ideal.proofs.Runs.{stateBefore, valid-before, running-before, tables-next, sized-at, code-at, accepted-at}
 use Rattle.ideal.proofs.Logs.{attest-passed}
@@ -27,7 +26,7 @@ use Rattle.ideal.proofs.Escrows.{protect-passed}
 use Rattle.ideal.proofs.Checks.{check-at}
 use Rattle.ideal.proofs.Retrieves.{retrieve-at, handed}
 use Rattle.ideal.proofs.Accurate.{handle-once, handle-is-first-free}
-use Rattle.ideal.proofs.Behaviours.{eventsAt, countAt, CallOf, call-of, event-of, call-before, event-before}
+use Rattle.ideal.proofs.Behaviours.{eventsAt, countAt, call-of, event-of, call-before, event-before, in-list}
 
 -- ---- an event, and the call that it is of
 
@@ -142,30 +141,31 @@ runs-none t h =
     by-cases (eqb (t .box .running) 16) (λ e. eqb-true _ 16 e)
     (λ e. let q : some (callerIn t) ≡ none = rw e at h in let x : _≡_ {A = ℕ} 0 1 = cc in absurd (omega arith))
 
-principal-is : (t : Tables) (p : ℕ) → (t .box .running ≡ 16 → ⊥) → callerIn t ≡ p → principalIn t ≡ some p
+pub principal-is : (t : Tables) (p : ℕ) → (t .box .running ≡ 16 → ⊥) → callerIn t ≡ p → principalIn t ≡ some p
 unfolding principalIn
 principal-is t p n e = rw (ne-eqb _ 16 n, e)
 
 -- ---- events of a run
 
-accepted-event : (t : Tables) (r : Result) (c : Call) (used : ℕ) (ev : Event) → r .answer .code ≡ 0 → eventOn t r c ≡ ev ∷ []
+pub accepted-event : (t : Tables) (r : Result) (c : Call) (used : ℕ) (ev : Event) → r .answer .code ≡ 0 → eventOn t r c ≡ ev ∷ []
     → events t r (whole c used) ≡ ev ∷ []
 unfolding events
 accepted-event t r c used ev z h = let n : eqb (r .answer .code) 15 ≡ false = ap (λ m. eqb m 15) z in rw n h
 
 module _ (es : List Element) where
   -- the call of the event at j
-  record EventOf (j : ℕ) (ev : Event) : Type 0 where
-    index : ℕ
-    count : countAt callOn freshTables es index ≡ j
+  pub record EventOf (j : ℕ) (ev : Event) : Type 0 where
+    pub index : ℕ
+    pub in-list : index < length es
+    pub count : countAt callOn freshTables es index ≡ j
     seen : Seen (tablesBefore callOn es index) (callOn (tablesBefore callOn es index) (elementAt es index))
         (read (elementAt es index .bytes)) ev
 
-  event-at : (j : ℕ) (ev : Event) → eventAt (behaviour callOn es) j ≡ some ev → EventOf j ev
+  pub event-at : (j : ℕ) (ev : Event) → eventAt (behaviour callOn es) j ≡ some ev → EventOf j ev
   unfolding behaviour tablesBefore tablesAfter
   event-at j ev h =
       let c = call-of callOn es freshTables j ev h in
-      record { index = c .index; count = c .count; seen = seen _ _ _ ev (c .is) }
+      record { index = c .index; in-list = in-list callOn es freshTables (c .index) ev (c .is); count = c .count; seen = seen _ _ _ ev (c .is) }
 
   earlier : (i j : ℕ) (a b : Event) (x : EventOf i a) (y : EventOf j b) → i < j → x .index < y .index
   earlier i j a b x y l =
@@ -225,7 +225,7 @@ module _ (es : List Element) where
         gets = let q : record { 0 = answerAt callOn es (x .index) .number } ≡ τ = cc in ap (λ z. z .0) q;
       }
 
-  protects-at : (i : ℕ) (v : List ℕ) (p q : ℕ) (η : Handle)
+  pub protects-at : (i : ℕ) (v : List ℕ) (p q : ℕ) (η : Handle)
       (x : EventOf i (record { command = iprotect q v; principal = some p; result = handle η })) → ProtectsAt callOn es p q η v (x .index)
   unfolding answerAt fails?
   protects-at i v p q η x =
@@ -249,7 +249,7 @@ module _ (es : List Element) where
 gave-it : (code : ℕ) (x : Response) → code ≡ 0 → cond (eqb code 0) x (fails code) ≡ x
 gave-it code x e = rw e
 
-made : (t : Tables) (r : Result) (c d : Command) (x y : Response) (p : Option ℕ) → r .answer .code ≡ 0 → principalIn t ≡ p → c ≡ d → x ≡ y
+pub made : (t : Tables) (r : Result) (c d : Command) (x y : Response) (p : Option ℕ) → r .answer .code ≡ 0 → principalIn t ≡ p → c ≡ d → x ≡ y
     → eventOf t r c x ≡ record { command = d; principal = p; result = y } ∷ []
 unfolding eventOf
 made t r c d x y p z a b e =

@@ -1,31 +1,29 @@
 -- Heaps are apart, a yield keeps a heap, an exit clears it: the statements of specs/ServiceLife.antt. Assumes nothing.
-use Prim.Native.Nat.{ℕ, zero, suc, _*_, _≤_, _<_}
-use mathlib.Core.Path.{_≡_, refl, sym, ap, _∙_, subst, subst₂}
-use mathlib.Core.Bool.{Bool, true, false, not, _&&_, cond, false≢true}
+use Prim.Native.Nat.{ℕ, zero, suc, _≤_, _<_}
+use mathlib.Core.Path.{_≡_, refl, sym, ap, _∙_, subst}
+use mathlib.Core.Bool.{true, false, _&&_}
 use mathlib.Core.List.{List, [], _∷_}
 use native.Mathlib.Omega.{arith}
-use lib.ListN.{length, getD}
 use lib.Seq.{getD-set-same, getD-set-other}
-use lib.Dec.{eqb, ltb}
-use borrow.Author.Tests.{eqb-true, eqb-false, ltb-true, ltb-false}
+use lib.Dec.{eqb}
+use borrow.Author.Tests.{eqb-true, eqb-false}
 use Rattle.record.specs.Call.{Call, create, start, yield, exit, heapWrite, heapRead, sharedWrite, sharedRead, attest, check, protect, retrieve, report}
-use Rattle.record.specs.Read.{whole, read}
 use Rattle.record.specs.Write.{filled}
-use Rattle.ideal.specs.State.{State, cleared, identityAt, heapAt, any}
+use Rattle.ideal.specs.State.{State, cleared, heapAt, any}
 use Rattle.ideal.specs.Step.{idle, accepted, refusal, tests, effect, withHeap, withRunning, withIdentity, withShared, withLog, withEscrow, written}
-use Rattle.ideal.specs.Tables.{Tables, tables, boxRecord, stateOf}
+use Rattle.ideal.specs.Tables.{tables, stateOf}
 use Rattle.ideal.specs.Soundness.{sizesRight, sound}
-use Rattle.ideal.specs.Box.{Element, Result, laid, unsound, callOn, elementAt, tablesBefore}
+use Rattle.ideal.specs.Box.{Element, laid, unsound, callOn, elementAt, tablesBefore}
 use Rattle.ideal.specs.Layouts.{Sound}
 use Rattle.ideal.specs.Refusals.{oneOf}
 use Rattle.ideal.specs.Valid.{Valid}
-use Rattle.ideal.specs.ServiceLife.{heapOf, OnlyOtherHeaps, WritesOwnHeap, ReadsOwnHeap, RunsAt, WritesAt, YieldKeeps, ExitClears}
-use Rattle.ideal.proofs.Bools.{by-cases, clash, and-left, and-right}
+use Rattle.ideal.specs.ServiceLife.{heapOf, WritesOwnHeap, RunsAt, WritesAt, YieldKeeps, ExitClears}
+use Rattle.ideal.proofs.Bools.{by-cases, and-left, and-right}
 use Rattle.ideal.proofs.Chain.{failed}
 use Rattle.ideal.proofs.Kept.{busy}
 use Rattle.ideal.proofs.Laid.{stepElement, valid-sound, tables-state, valid-step, call-is}
 use Rattle.ideal.proofs.Hosted.{heap-is}
-use Rattle.ideal.proofs.Runs.{stateBefore, valid-before, tables-before, running-before, tables-next, Accepted, Moved, stays, moves, moved, accepted-call, accepted-at, accepts-at, state-next, state-after}
+use Rattle.ideal.proofs.Runs.{stateBefore, valid-before, tables-before, running-before, stays, moves, moved, accepted-call, accepted-at, accepts-at, state-next, state-after}
 
 -- ---- what an accepted call does to the heap of place p
 

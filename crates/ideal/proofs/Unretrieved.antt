@@ -1,10 +1,10 @@
 -- A value that is escrowed and not retrieved shows nowhere: Lemma 3 of specs/Paper.antt. Assumes nothing.
-use Prim.Native.Nat.{ℕ, zero, suc, _<_}
+use Prim.Native.Nat.{ℕ, suc, _<_}
 use mathlib.Core.Path.{_≡_, refl, sym, ap, _∙_, subst, subst₂}
-use mathlib.Core.Bool.{Bool, true, false, _&&_, cond, false≢true}
+use mathlib.Core.Bool.{true, false, _&&_, cond, false≢true}
 use mathlib.Core.List.{List, [], _∷_, _++_}
 use native.Mathlib.Omega.{arith}
-use lib.ListN.{length, getD, take, length-take, length-drop}
+use lib.ListN.{length, getD, length-take}
 use lib.Seq.{ext-getD, getD-take}
 use lib.Dec.{eqb}
 use borrow.Author.Tests.{eqb-true}
@@ -12,20 +12,20 @@ use Rattle.record.specs.declared.Handle.{Handle}
 use Rattle.record.specs.Call.{Call, create, start, yield, exit, heapWrite, heapRead, sharedWrite, sharedRead, attest, check, protect, retrieve, report}
 use Rattle.record.specs.Read.{Reading, refused, whole, read}
 use Rattle.ideal.specs.declared.EscrowRow.{EscrowRow}
-use Rattle.ideal.specs.State.{EscrowKey, State, caller, part}
-use Rattle.ideal.specs.Step.{Outcome, refusal, refuse, refusedAnswer, accepted, settle, step, onReading, stepOn}
+use Rattle.ideal.specs.State.{State, caller, part}
+use Rattle.ideal.specs.Step.{refusal}
 use Rattle.ideal.specs.Tables.{Tables, escrowTable, entryOf, entriesOf, usedEscrow, boxRecord, tables, stateOf}
 use Rattle.ideal.specs.Box.{Element, Result, laid, callOn, elementAt, tablesFrom, answersFrom}
 use Rattle.ideal.specs.Layouts.{Sound}
-use Rattle.ideal.specs.Refusals.{isRow, callerIn, ownBytes}
+use Rattle.ideal.specs.Refusals.{isRow}
 use Rattle.ideal.specs.Valid.{Valid}
-use Rattle.ideal.specs.Paper.{principalIn, eventOf, eventOn, events, behaviourFrom, OnlyValue, RetrievesAt, NeverRetrieved, AgreeBut, Lemma3}
+use Rattle.ideal.specs.Paper.{principalIn, eventOf, eventOn, events, behaviourFrom, OnlyValue, NeverRetrieved, AgreeBut, Lemma3}
 use Rattle.ideal.proofs.Bools.{by-cases, and-left, and-right}
 use Rattle.ideal.proofs.Facts.{facts}
 use Rattle.ideal.proofs.Laid.{stepElement, valid-sound, tables-state, valid-step, call-is}
 use Rattle.ideal.proofs.TwoEscrows.{SameEntry, SameEscrow, no-entries, entry}
-use Rattle.ideal.proofs.TwoStates.{Secrets, SameHeaps, SameBut, length-part, AlikeCalls, same-call, NoneTold, same-refusal, same-effect, same-number, same-shown}
-use Rattle.ideal.proofs.SameStep.{Both, both-element}
+use Rattle.ideal.proofs.TwoStates.{Secrets, SameBut, length-part, NoneTold}
+use Rattle.ideal.proofs.SameStep.{both-element}
 use Rattle.ideal.proofs.Secret.{accepted-code, same-box, same-escrow-rows, same-escrow-values}
 
 -- the value under one key may differ, and no heap

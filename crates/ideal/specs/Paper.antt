@@ -4,7 +4,7 @@ use mathlib.Core.Path.{_≡_}
 use mathlib.Core.Bool.{Bool, true, false, cond}
 use mathlib.Core.List.{List, [], _∷_, _++_}
 use mathlib.Core.Option.{Option, none, some}
-use lib.ListN.{length, getD, take}
+use lib.ListN.{length, getD, set, take, drop}
 use lib.Dec.{eqb}
 use Rattle.fnv.specs.declared.Tag.{Tag}
 use Rattle.record.specs.declared.Handle.{Handle}
@@ -201,8 +201,26 @@ module _ (box : Tables → Element → Result) where
     pub events : behaviourFrom box t es ≡ behaviourFrom box u es
     pub end : OnlyValue p q η (tablesFrom box t es) (tablesFrom box u es)
 
-  -- Lemma 3 without probabilities: any two sound boxes that differ in that value alone answer every list of elements alike,
-  -- draws included, and again differ in that value alone
+  -- Lemma 3 without probabilities: any two sound boxes that differ in that value alone answer every list of elements alike and
+  -- again differ in that value alone. The draws stand in the elements: they are the host's, and this holds whatever they are.
+  -- So where they are random and independent of the value, every answer, byte shown and event has the same probability for
+  -- each value; part 2 of the paper's lemma is that and Bayes' rule, which is not said here. At the protect itself it is (i).
   abbrev pub Lemma3 : Type 0
   Lemma3 = (p q : ℕ) (η : Handle) (t u : Tables) (es : List Element) → Sound t 1024 → Sound u 1024 → OnlyValue p q η t u
       → NeverRetrieved p q η t es → AgreeBut p q η t u es
+
+  -- α is the behaviour of the list with two elements more, one just before the call at an index and one just after it; so the
+  -- draws are those of the list
+  pub record BehavesWithTwo (es : List Element) (α : List Event) : Type 0 where
+    pub index : ℕ
+    pub before : Element
+    pub after : Element
+    pub is : behaviour box (take index es ++ (before ∷ elementAt es index ∷ after ∷ drop (suc index) es)) ≡ α
+
+  -- "1. α_ν[b/ν] is a behavior", for each b of v's length, where ν is the value of the iprotect at i
+  abbrev pub Lemma3-1 : Type 0
+  Lemma3-1 = (es : List Element) (i : ℕ) (v b : List ℕ) (p q : ℕ) (η : Handle)
+      → let α = behaviour box es in
+      Occurs α i (iprotect q v) (some p) (handle η)
+      → ((j offset : ℕ) (w : List ℕ) → i < j → Occurs α j (iretrieve p η offset) (some q) (value w) → ⊥) → length b ≡ length v
+      → BehavesWithTwo es (set α i (record { command = iprotect q b; principal = some p; result = handle η }))

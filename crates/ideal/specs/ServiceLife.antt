@@ -6,7 +6,6 @@ use mathlib.Core.List.{List, [], _∷_}
 use Rattle.record.specs.Call.{Call, yield, exit}
 use Rattle.record.specs.Write.{filled}
 use Rattle.ideal.specs.State.{part, cleared}
-use Rattle.ideal.specs.Step.{Answer}
 use Rattle.ideal.specs.Tables.{Tables}
 use Rattle.ideal.specs.Box.{Element, Result, tablesBefore}
 use Rattle.ideal.specs.Layouts.{Sound}
