@@ -37,6 +37,7 @@ pub mod Secret
 pub mod Differing
 pub mod Examined
 pub mod Behaviours
+pub mod Events
 pub mod Paper
 pub mod SameStep
 pub mod Unretrieved

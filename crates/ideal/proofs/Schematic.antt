@@ -37,7 +37,7 @@ use Rattle.ideal.proofs.Escrows.{ProtectPassed, protect-passed}
 use Rattle.ideal.proofs.TwoEscrows.{SameEntry, same-escrow, same-more}
 use Rattle.ideal.proofs.TwoStates.{SameHeaps, SameBut}
 use Rattle.ideal.proofs.Behaviours.{countAt, eventsAt, event-of, past, behaviour-append}
-use Rattle.ideal.proofs.Paper.{EventOf, event-at, protects-at, accepted-event, made, principal-is}
+use Rattle.ideal.proofs.Events.{EventOf, event-at, protects-at, accepted-event, made, principal-is}
 use Rattle.ideal.proofs.Unretrieved.{unretrieved, run}
 
 -- ---- a part of a heap overwritten, and put back

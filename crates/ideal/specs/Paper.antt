@@ -13,16 +13,17 @@ use Rattle.record.specs.Call.{Call, create, start, yield, exit, heapWrite, heap
 use Rattle.record.specs.Read.{Reading, refused, whole, read}
 use Rattle.ideal.specs.State.{part}
 use Rattle.ideal.specs.Tables.{Tables, escrowTable, freshTables}
-use Rattle.ideal.specs.Box.{Element, Result, elementAt, tablesFrom, answersFrom}
+use Rattle.ideal.specs.Box.{Element, Result, elementAt, tablesBefore, tablesFrom, answersFrom}
 use Rattle.ideal.specs.Layouts.{Sound}
 use Rattle.ideal.specs.Refusals.{callerIn, ownBytes, isRow}
-use Rattle.ideal.specs.Accuracy.{Earlier, handleUsed, HandleOnce, HandleIsFirstFree}
+use Rattle.ideal.specs.Accuracy.{Earlier, LogsAt, ProtectsAt, Says, HandsOut, handleUsed, HandleOnce, HandleIsFirstFree}
 
 -- ---- Definition 1
 
--- "A command c is an instruction together with a choice of its command arguments." A value v is what the heap held in the
--- part that the call names. The draw is no argument: it stands for iprotect's sampling. A retrieve's offset, which the paper
--- leaves open, says where in its heap the caller wants the value.
+-- "A command c is an instruction together with a choice of its command arguments." A value v is what the caller's
+-- heap holds in the part that the call names; where there is no such part (4, 11) the call fails, and v means nothing. The
+-- draw is no argument: it stands for iprotect's sampling. A retrieve's offset, which the paper leaves open, says where in its
+-- heap the caller wants the value.
 pub data Command : Type 0 where
   iattest : (v : List ℕ) → Command
   icheck : (source : ℕ) (v : List ℕ) (τ : Tag) → Command
@@ -97,6 +98,21 @@ eventAt (e ∷ α) (suc i) = eventAt α i
 -- the event of α at index i is this triple
 abbrev pub Occurs : List Event → ℕ → Command → Option ℕ → Response → Type 0
 Occurs α i c p r = eventAt α i ≡ some (record { command = c; principal = p; result = r })
+
+-- each accepted attest, check, protect and retrieve of a list is an event, after those of the calls before it
+pub record Definition1 (box : Tables → Element → Result) : Type 0 where
+  pub attests : (es : List Element) (k p : ℕ) (v : List ℕ) (τ : Tag) → LogsAt box es p v τ k
+      → Occurs (behaviour box es) (length (behaviour box (take k es))) (iattest v) (some p) (tag τ)
+  pub checks : (es : List Element) (k p n used : ℕ) (τ : Tag) (v : List ℕ)
+      → read (elementAt es k .bytes) ≡ whole (check p τ v) used → Says box es n k
+      → Occurs (behaviour box es) (length (behaviour box (take k es))) (icheck p v τ) (principalIn (tablesBefore box es k))
+      (truth (eqb n 1))
+  pub protects : (es : List Element) (k p q : ℕ) (η : Handle) (v : List ℕ) → ProtectsAt box es p q η v k
+      → Occurs (behaviour box es) (length (behaviour box (take k es))) (iprotect q v) (some p) (handle η)
+  pub retrieves : (es : List Element) (k p offset used : ℕ) (η : Handle) (v : List ℕ)
+      → read (elementAt es k .bytes) ≡ whole (retrieve p offset η) used → HandsOut box es offset v k
+      → Occurs (behaviour box es) (length (behaviour box (take k es))) (iretrieve p η offset)
+      (principalIn (tablesBefore box es k)) (value v)
 
 unfoldable pub needsService : Command → Bool
 needsService (iattest v) = true
