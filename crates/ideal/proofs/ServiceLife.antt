@@ -1,29 +1,32 @@
 -- Heaps are apart, a yield keeps a heap, an exit clears it: the statements of specs/ServiceLife.antt. Assumes nothing.
-use Prim.Native.Nat.{ℕ, zero, suc, _≤_, _<_}
+use Prim.Native.Nat.{ℕ, zero, suc, _+_, _≤_, _<_}
 use mathlib.Core.Path.{_≡_, refl, sym, ap, _∙_, subst}
 use mathlib.Core.Bool.{true, false, _&&_}
 use mathlib.Core.List.{List, [], _∷_}
 use native.Mathlib.Omega.{arith}
-use lib.Seq.{getD-set-same, getD-set-other}
+use lib.ListN.{length, replicate, length-replicate, getD-replicate}
+use lib.Seq.{getD-set-same, getD-set-other, ext-getD}
 use lib.Dec.{eqb}
-use borrow.Author.Tests.{eqb-true, eqb-false}
+use borrow.Author.Tests.{eqb-true, eqb-false, ltb-false, not-false}
 use Rattle.record.specs.Call.{Call, create, start, yield, exit, heapWrite, heapRead, sharedWrite, sharedRead, attest, check, protect, retrieve, report}
 use Rattle.record.specs.Write.{filled}
-use Rattle.ideal.specs.State.{State, cleared, heapAt, any}
-use Rattle.ideal.specs.Step.{idle, accepted, refusal, tests, effect, withHeap, withRunning, withIdentity, withShared, withLog, withEscrow, written}
+use Rattle.ideal.specs.State.{State, cleared, heapAt, part, ownPart, any}
+use Rattle.ideal.specs.Step.{idle, beyond, accepted, shown, refusal, tests, effect, withHeap, withRunning, withIdentity, withShared, withLog, withEscrow, written}
 use Rattle.ideal.specs.Tables.{tables, stateOf}
 use Rattle.ideal.specs.Soundness.{sizesRight, sound}
 use Rattle.ideal.specs.Box.{Element, laid, unsound, callOn, elementAt, tablesBefore}
 use Rattle.ideal.specs.Layouts.{Sound}
 use Rattle.ideal.specs.Refusals.{oneOf}
 use Rattle.ideal.specs.Valid.{Valid}
-use Rattle.ideal.specs.ServiceLife.{heapOf, WritesOwnHeap, RunsAt, WritesAt, YieldKeeps, ExitClears}
+use Rattle.ideal.specs.ServiceLife.{heapOf, WritesOwnHeap, RunsAt, WritesAt, YieldKeeps, ExitClears, TenantReadsZeros}
 use Rattle.ideal.proofs.Bools.{by-cases, and-left, and-right}
-use Rattle.ideal.proofs.Chain.{failed}
+use Rattle.ideal.proofs.Chain.{failed, passed}
 use Rattle.ideal.proofs.Kept.{busy}
 use Rattle.ideal.proofs.Laid.{stepElement, valid-sound, tables-state, valid-step, call-is}
+use Rattle.ideal.proofs.Memory.{part-at}
+use Rattle.ideal.proofs.Table.{part-length}
 use Rattle.ideal.proofs.Hosted.{heap-is}
-use Rattle.ideal.proofs.Runs.{stateBefore, valid-before, tables-before, running-before, stays, moves, moved, accepted-call, accepted-at, accepts-at, state-next, state-after}
+use Rattle.ideal.proofs.Runs.{stateBefore, valid-before, tables-before, running-before, stays, moves, moved, accepted-call, accepted-at, accepts-at, answer-at, state-next, state-after}
 
 -- ---- what an accepted call does to the heap of place p
 
@@ -149,6 +152,31 @@ exit-clears es p k m used l y r h =
     let e : s .running ≡ p = sym (running-before es k) ∙ r in
     let c : heapAt (effect s exit) p ≡ cleared = rw (← e) (own-set s cleared (valid-before es k) (busy s (valid-before es k) i)) in
     clear-until es p b k m l (heap-before es p b (suc k) ∙ ap (λ x. heapAt x p) (state-after es k exit used a) ∙ c) h
+
+zeros-part : (o n : ℕ) → o + n ≤ 256 → part cleared o n ≡ replicate n 0
+unfolding cleared
+zeros-part o n f =
+    let zeros : List ℕ = replicate 256 0 in
+    let l : length zeros ≡ 256 = length-replicate {A = ℕ} 256 0 in
+    let c = part-length zeros o n (omega arith) in
+    ext-getD 0 _ (replicate n 0) (c ∙ sym (length-replicate {A = ℕ} n 0))
+    (λ x b. part-at zeros o n x (omega arith) ∙ getD-replicate {A = ℕ} 256 (o + x) 0 0 (omega arith)
+    ∙ sym (getD-replicate {A = ℕ} n x 0 0 (omega arith)))
+
+pub tenant-reads-zeros : TenantReadsZeros callOn
+unfolding refusal tests beyond accepted shown ownPart
+tenant-reads-zeros es p k m o n used₁ used₂ l y r h z =
+    let s = stateBefore es m in
+    let c = heapRead p o n in
+    let a = accepted-at es m c used₂ (z .0) (z .1) in
+    let r₁ = passed 5 _ _ (passed 3 _ _ (a .passes)) in
+    let e : p ≡ s .running = eqb-true p (s .running) (not-false _ (failed 7 _ _ r₁)) in
+    let b = busy s (valid-before es m) (failed 3 _ _ (a .passes)) in
+    let f = ltb-false 256 (o + n) (failed 10 _ _ (passed 7 _ _ r₁)) in
+    let own : heapAt s (s .running) ≡ cleared =
+    rw (← e) (sym (heap-before es p (omega arith) m) ∙ exit-clears es p k m used₁ l y r h) in
+    ap (λ x. x .shown) (answer-at es m) ∙ ap (λ x. x .answer .shown) (accepted-call s (elementAt es m) c used₂ (a .reads) (a .sized) (a .passes))
+    ∙ ap (λ x. part x o n) own ∙ zeros-part o n f
 
 -- ---- any box
 

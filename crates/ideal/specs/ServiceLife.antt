@@ -3,11 +3,12 @@ use Prim.Native.Nat.{ℕ, _*_, _<_}
 use mathlib.Core.Path.{_≡_}
 use mathlib.Core.Bool.{true}
 use mathlib.Core.List.{List, [], _∷_}
-use Rattle.record.specs.Call.{Call, yield, exit}
+use lib.ListN.{replicate}
+use Rattle.record.specs.Call.{Call, yield, exit, heapRead}
 use Rattle.record.specs.Write.{filled}
 use Rattle.ideal.specs.State.{part, cleared}
 use Rattle.ideal.specs.Tables.{Tables}
-use Rattle.ideal.specs.Box.{Element, Result, tablesBefore}
+use Rattle.ideal.specs.Box.{Element, Result, tablesBefore, answerAt}
 use Rattle.ideal.specs.Layouts.{Sound}
 use Rattle.ideal.specs.Refusals.{oneOf}
 use Rattle.ideal.specs.History.{Accepts}
@@ -60,8 +61,13 @@ module _ (box : Tables → Element → Result) where
       → ((j : ℕ) → k < j → j < m → RunsAt box es p j → ⊥)
       → heapOf (tablesBefore box es m) p ≡ heapOf (tablesBefore box es k) p
 
-  -- exit-service: "Zero the unshared heap of the service". No later tenant of the place finds anything there: the heap is zeros
-  -- until that tenant writes it.
+  -- exit-service: "Zero the unshared heap of the service": it is zeros until the next tenant of the place writes it
   abbrev pub ExitClears : Type 0
   ExitClears = (es : List Element) (p k m used : ℕ) → k < m → Accepts box es k exit used → RunsAt box es p k
       → ((j : ℕ) → k < j → j < m → WritesAt box es p j → ⊥) → heapOf (tablesBefore box es m) p ≡ cleared
+
+  -- so no later tenant reads what the service left there
+  abbrev pub TenantReadsZeros : Type 0
+  TenantReadsZeros = (es : List Element) (p k m offset size used₁ used₂ : ℕ) → k < m → Accepts box es k exit used₁ → RunsAt box es p k
+      → ((j : ℕ) → k < j → j < m → WritesAt box es p j → ⊥) → Accepts box es m (heapRead p offset size) used₂
+      → answerAt box es m .shown ≡ replicate size 0
