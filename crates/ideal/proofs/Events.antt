@@ -157,7 +157,12 @@ module _ (es : List Element) where
   unfolding behaviour tablesBefore tablesAfter
   event-at j ev h =
       let c = call-of callOn es freshTables j ev h in
-      record { index = c .index; in-list = in-list callOn es freshTables (c .index) ev (c .is); count = c .count; seen = seen _ _ _ ev (c .is) }
+      record {
+        index = c .index;
+        in-list = in-list callOn es freshTables (c .index) ev (c .is);
+        count = c .count;
+        seen = seen _ _ _ ev (c .is);
+      }
 
   pub earlier : (i j : ℕ) (a b : Event) (x : EventOf i a) (y : EventOf j b) → i < j → x .index < y .index
   earlier i j a b x y l =
@@ -178,7 +183,8 @@ module _ (es : List Element) where
         there = event-of callOn es freshTables k ev q;
       }
 
-  module _ (j : ℕ) (c : Command) (p : Option ℕ) (r : Response) (y : EventOf j (record { command = c; principal = p; result = r })) where
+  module _ (j : ℕ) (c : Command) (p : Option ℕ) (r : Response)
+      (y : EventOf j (record { command = c; principal = p; result = r })) where
     code-not : answerAt callOn es (y .index) .code ≡ 15 → ⊥
     unfolding answerAt
     code-not = y .seen .reached
@@ -215,7 +221,8 @@ module _ (es : List Element) where
       }
 
   pub protects-at : (i : ℕ) (v : List ℕ) (p q : ℕ) (η : Handle)
-      (x : EventOf i (record { command = iprotect q v; principal = some p; result = handle η })) → ProtectsAt callOn es p q η v (x .index)
+      (x : EventOf i (record { command = iprotect q v; principal = some p; result = handle η }))
+      → ProtectsAt callOn es p q η v (x .index)
   unfolding answerAt fails?
   protects-at i v p q η x =
       let w = x .seen .did .was in
@@ -238,7 +245,8 @@ module _ (es : List Element) where
 pub gave-it : (code : ℕ) (x : Response) → code ≡ 0 → cond (eqb code 0) x (fails code) ≡ x
 gave-it code x e = rw e
 
-pub made : (t : Tables) (r : Result) (c d : Command) (x y : Response) (p : Option ℕ) → r .answer .code ≡ 0 → principalIn t ≡ p → c ≡ d → x ≡ y
+pub made : (t : Tables) (r : Result) (c d : Command) (x y : Response) (p : Option ℕ) → r .answer .code ≡ 0 → principalIn t ≡ p
+    → c ≡ d → x ≡ y
     → eventOf t r c x ≡ record { command = d; principal = p; result = y } ∷ []
 unfolding eventOf
 made t r c d x y p z a b e =
@@ -286,8 +294,10 @@ module _ (es : List Element) (k : ℕ) where
       call-event c (l .used) _ (l .reads) (l .accepts)
       (made t r _ _ _ _ _ (l .accepts) (principal-is t p (runs b) (l .by)) (ap (iprotect q) (l .bytes)) (ap handle g))
 
-  pub check-event : (p n used : ℕ) (τ : Tag) (v : List ℕ) → read (elementAt es k .bytes) ≡ whole (check p τ v) used → Says callOn es n k
-      → eventsAt callOn freshTables es k ≡ record { command = icheck p v τ; principal = principalIn t; result = truth (eqb n 1) } ∷ []
+  pub check-event : (p n used : ℕ) (τ : Tag) (v : List ℕ) → read (elementAt es k .bytes) ≡ whole (check p τ v) used
+      → Says callOn es n k
+      → eventsAt callOn freshTables es k
+      ≡ record { command = icheck p v τ; principal = principalIn t; result = truth (eqb n 1) } ∷ []
   unfolding eventOn answerAt
   check-event p n used τ v reads z =
       call-event (check p τ v) used _ reads (z .0) (made t r _ _ _ _ _ (z .0) refl refl (ap (λ m. truth (eqb m 1)) (z .1)))

@@ -106,7 +106,8 @@ only-others p {s} {t} k v w =
 abbrev Tells : ℕ → Tables → Tables → Element → Type 0
 Tells p t u e = (callOn t e .answer ≡ callOn u e .answer) × OnlyOtherHeaps p (callOn t e .tables) (callOn u e .tables)
 
-tells : (s t : State) (e : Element) → Valid s → Valid t → SameBut (others (s .running)) s t → Tells (s .running) (tables s) (tables t) e
+tells : (s t : State) (e : Element) → Valid s → Valid t → SameBut (others (s .running)) s t
+    → Tells (s .running) (tables s) (tables t) e
 unfolding laid
 tells s t e v w k =
     let p = s .running in

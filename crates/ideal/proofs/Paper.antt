@@ -93,7 +93,8 @@ lemma2-2 es j v p q η o b =
     event-earlier es j _ y (x .index) _ (x .before) (protect-event es (x .index) p q η v (x .there))
 
 -- no service runs
-none-runs : (es : List Element) (j : ℕ) (c : Command) (r : Response) (y : EventOf es j (record { command = c; principal = none; result = r }))
+none-runs : (es : List Element) (j : ℕ) (c : Command) (r : Response)
+    (y : EventOf es j (record { command = c; principal = none; result = r }))
     → idle (stateBefore es (y .index)) ≡ true
 unfolding idle
 none-runs es j c r y =
@@ -107,7 +108,8 @@ unfolding needsService answerAt refusal tests first
 only-services es i (iattest v) r n h =
     let y = event-at es i _ h in
     let w = y .seen .did .was in
-    let code = code-at es (y .index) (attest (w .offset) (w .size)) (y .seen .used) (reads-as es i _ _ _ y _ (w .call)) (sized es i _ _ _ y) in
+    let code = code-at es (y .index) (attest (w .offset) (w .size)) (y .seen .used) (reads-as es i _ _ _ y _ (w .call))
+    (sized es i _ _ _ y) in
     gives-four _ _ r (y .seen .did .result) (code ∙ rw (none-runs es i _ r y))
 only-services es i (icheck p v τ) r n h = absurd (false≢true n)
 only-services es i (iprotect q v) r n h =
@@ -118,7 +120,8 @@ only-services es i (iprotect q v) r n h =
     gives-four _ _ r (y .seen .did .result) (code ∙ rw (none-runs es i _ r y))
 only-services es i (iretrieve p η o) r n h =
     let y = event-at es i _ h in
-    let code = code-at es (y .index) (retrieve p o η) (y .seen .used) (reads-as es i _ _ _ y _ (y .seen .did .was)) (sized es i _ _ _ y) in
+    let code = code-at es (y .index) (retrieve p o η) (y .seen .used) (reads-as es i _ _ _ y _ (y .seen .did .was))
+    (sized es i _ _ _ y) in
     gives-four _ _ r (y .seen .did .result) (code ∙ rw (none-runs es i _ r y))
 
 -- ---- the assumptions on handles

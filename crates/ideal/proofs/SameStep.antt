@@ -46,4 +46,5 @@ module _ (z : Secrets) where
         → Both (stepElement s e) (stepElement t e)
     unfolding stepElement stepOn
     both-element e h =
-        cond-both (λ o v. Both o v) (eqb (e .outputSize) 1024) (λ x. both-reading (read (e .bytes)) (h x)) (λ _. both-refuse 15 0 0)
+        cond-both (λ o v. Both o v) (eqb (e .outputSize) 1024) (λ x. both-reading (read (e .bytes)) (h x))
+        (λ _. both-refuse 15 0 0)

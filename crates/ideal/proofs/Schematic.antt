@@ -78,7 +78,8 @@ no-event : (t : Tables) (r : Result) (p o : ℕ) (w : List ℕ) (used : ℕ) →
 unfolding events eventOn
 no-event t r p o w used = by-cases (eqb (r .answer .code) 15) (λ e. rw e) (λ e. rw e)
 
-silent : (s : State) (e : Element) (es : List Element) (p o : ℕ) (w : List ℕ) (used : ℕ) → Valid s → Accepted s e (heapWrite p o w) used
+silent : (s : State) (e : Element) (es : List Element) (p o : ℕ) (w : List ℕ) (used : ℕ) → Valid s
+    → Accepted s e (heapWrite p o w) used
     → behaviourFrom callOn (tables s) (e ∷ es) ≡ behaviourFrom callOn (tables (effect s (heapWrite p o w))) es
 unfolding behaviourFrom laid accepted
 silent s e es p o w used v a =
@@ -107,9 +108,11 @@ module _ (p q o n : ℕ) (d : Draw) (η : Handle) (used : ℕ) where
       let m = ap (λ y. y .answer .number) now ∙ gets in λ j. record { 0 = m j } in
       let one : events t r (whole c used) ≡ protects p q η w ∷ [] =
       accepted-event t r c used (protects p q η w) z
-      (made t r _ _ _ _ _ z (principal-is t p (λ y. omega arith) by) (ap (iprotect q) (own-bytes s v l o n (x .fits) ∙ own)) (ap handle g)) in
+      (made t r _ _ _ _ _ z (principal-is t p (λ y. omega arith) by) (ap (iprotect q) (own-bytes s v l o n (x .fits) ∙ own))
+      (ap handle g)) in
       ap (λ y. events t r y ++ behaviourFrom callOn (r .tables) es) (a .reads)
-      ∙ ap (λ y. y ++ behaviourFrom callOn (r .tables) es) one ∙ ap (λ y. protects p q η w ∷ behaviourFrom callOn (y .tables) es) now
+      ∙ ap (λ y. y ++ behaviourFrom callOn (r .tables) es) one
+      ∙ ap (λ y. protects p q η w ∷ behaviourFrom callOn (y .tables) es) now
 
 written-element : (s : State) (p o : ℕ) (w : List ℕ) → p < 16 → o + length w ≤ 256 → refusal s (heapWrite p o w) ≡ 0
     → Accepted s (element (heapWrite p o w)) (heapWrite p o w) (length (write (heapWrite p o w)))
@@ -131,12 +134,15 @@ written-element s p o w l f r =
 
 -- ---- on the state: b is written over the value, escrowed in its place, and the value written back
 
-write-accepted : (s : State) (o : ℕ) (b : List ℕ) → s .running < 16 → o + length b ≤ 256 → refusal s (heapWrite (s .running) o b) ≡ 0
+write-accepted : (s : State) (o : ℕ) (b : List ℕ) → s .running < 16 → o + length b ≤ 256
+    → refusal s (heapWrite (s .running) o b) ≡ 0
 unfolding refusal tests first idle beyond
 write-accepted s o b l f =
-    rw (ne-eqb (s .running) 16 (λ e. omega arith), le-ltb 15 (s .running) (omega arith), eq-eqb (s .running) (s .running) refl, le-ltb 256 (o + length b) f)
+    let p = s .running in
+    rw (ne-eqb p 16 (λ e. omega arith), le-ltb 15 p (omega arith), eq-eqb p p refl, le-ltb 256 (o + length b) f)
 
-module _ (s : State) (v : Valid s) (q o n : ℕ) (d : Draw) (r : refusal s (protect q o n d) ≡ 0) (b : List ℕ) (size : length b ≡ n) where
+module _ (s : State) (v : Valid s) (q o n : ℕ) (d : Draw) (r : refusal s (protect q o n d) ≡ 0) (b : List ℕ)
+    (size : length b ≡ n) where
   abbrev over : Call
   over = heapWrite (s .running) o b
 
@@ -228,7 +234,8 @@ module _ (s : State) (v : Valid s) (q o n : ℕ) (d : Draw) (r : refusal s (prot
   -- the events of the three calls are the one of the protect, with b
   swapped : (p : ℕ) (η : Handle) (e : Element) (used : ℕ) (rest : List Element) → Accepted s e it used → caller s ≡ p
       → number s it ≡ η .0
-      → behaviourFrom callOn (tables s) (element over ∷ e ∷ element back ∷ rest) ≡ protects p q η b ∷ behaviourFrom callOn (tables s₃) rest
+      → behaviourFrom callOn (tables s) (element over ∷ e ∷ element back ∷ rest)
+      ≡ protects p q η b ∷ behaviourFrom callOn (tables s₃) rest
   swapped p η e used rest a by gets =
       let l = passes .runs in
       let f = passes .fits in
@@ -241,7 +248,8 @@ module _ (s : State) (v : Valid s) (q o n : ℕ) (d : Draw) (r : refusal s (prot
 
 -- ---- on a run
 
-module _ (es : List Element) (i : ℕ) (v b : List ℕ) (p q : ℕ) (η : Handle) (y : EventOf es i (protects p q η v)) (e : length b ≡ length v) where
+module _ (es : List Element) (i : ℕ) (v b : List ℕ) (p q : ℕ) (η : Handle) (y : EventOf es i (protects p q η v))
+    (e : length b ≡ length v) where
   abbrev k : ℕ
   k = y .index
 
@@ -305,12 +313,14 @@ module _ (es : List Element) (i : ℕ) (v b : List ℕ) (p q : ℕ) (η : Handle
       ∙ ap (λ l. A ++ l)
       (loud p q (at .offset) (at .size) (at .draw) η (at .used) s (elementAt es k) rest v valid accepts by gets own)
 
-  beta : behaviour callOn (head ++ (before ∷ elementAt es k ∷ after ∷ rest)) ≡ A ++ protects p q η b ∷ behaviourFrom callOn (tables last) rest
+  beta : behaviour callOn (head ++ (before ∷ elementAt es k ∷ after ∷ rest))
+      ≡ A ++ protects p q η b ∷ behaviourFrom callOn (tables last) rest
   unfolding behaviour
   beta =
       from-head (before ∷ elementAt es k ∷ after ∷ rest)
       ∙ ap (λ x. A ++ x)
-      (swapped s valid q (at .offset) (at .size) (at .draw) (accepts .passes) b size p η (elementAt es k) (at .used) rest accepts by gets)
+      (swapped s valid q (at .offset) (at .size) (at .draw) (accepts .passes) b size p η (elementAt es k)
+      (at .used) rest accepts by gets)
 
   -- a retrieve of the value in the rest of the list would be an event after i
   never : ((j offset : ℕ) (w : List ℕ) → i < j → Occurs (behaviour callOn es) j (iretrieve p η offset) (some q) (value w) → ⊥)
@@ -332,7 +342,8 @@ module _ (es : List Element) (i : ℕ) (v b : List ℕ) (p q : ℕ) (η : Handle
       let there = event-of callOn rest (tables (effect s c)) m ev one in
       let count = y .count in
       h (length A + suc j) (x .offset) w (omega arith)
-      (ap (λ α. eventAt α (length A + suc j)) alpha ∙ past callOn A (protects p q η v ∷ behaviourFrom callOn (tables (effect s c)) rest) (suc j) ∙ there)
+      (ap (λ α. eventAt α (length A + suc j)) alpha
+      ∙ past callOn A (protects p q η v ∷ behaviourFrom callOn (tables (effect s c)) rest) (suc j) ∙ there)
 
   behaves : ((j offset : ℕ) (w : List ℕ) → i < j → Occurs (behaviour callOn es) j (iretrieve p η offset) (some q) (value w) → ⊥)
       → BehavesWithTwo callOn es (set (behaviour callOn es) i (protects p q η b))

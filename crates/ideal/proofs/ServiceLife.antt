@@ -175,7 +175,8 @@ tenant-reads-zeros es p k m o n used₁ used₂ l y r h z =
     let f = ltb-false 256 (o + n) (failed 10 _ _ (passed 7 _ _ r₁)) in
     let own : heapAt s (s .running) ≡ cleared =
     rw (← e) (sym (heap-before es p (omega arith) m) ∙ exit-clears es p k m used₁ l y r h) in
-    ap (λ x. x .shown) (answer-at es m) ∙ ap (λ x. x .answer .shown) (accepted-call s (elementAt es m) c used₂ (a .reads) (a .sized) (a .passes))
+    ap (λ x. x .shown) (answer-at es m)
+    ∙ ap (λ x. x .answer .shown) (accepted-call s (elementAt es m) c used₂ (a .reads) (a .sized) (a .passes))
     ∙ ap (λ x. part x o n) own ∙ zeros-part o n f
 
 -- ---- any box
@@ -204,5 +205,6 @@ writes-own-heap t e p b n =
     by-cases (sizesRight t m && sound t)
     (λ y.
     let h : Sound t m = record { sizes = and-left _ _ y; box = and-right (sizesRight t m) _ y } in
-    subst (λ x. heapOf (callOn x e .tables) p ≡ heapOf x p) (tables-state t m h) (own-only (stateOf t) e p (valid-sound t m h) b n))
+    subst (λ x. heapOf (callOn x e .tables) p ≡ heapOf x p) (tables-state t m h)
+    (own-only (stateOf t) e p (valid-sound t m h) b n))
     (λ y. rw y)

@@ -96,7 +96,8 @@ module _ (p q : ℕ) (η : Handle) where
 
   same-entries : (vs ws : List ℕ) (rs : List EscrowRow) → length vs ≡ length ws
       → ((k : ℕ) → k < length rs
-      → let r = getD rs k (escrowTable .blank) in isRow η p q r ≡ false → part vs (r .first) (r .length) ≡ part ws (r .first) (r .length))
+      → let r = getD rs k (escrowTable .blank) in isRow η p q r ≡ false
+      → part vs (r .first) (r .length) ≡ part ws (r .first) (r .length))
       → SameEscrow (z .value) (entriesOf escrowTable vs rs) (entriesOf escrowTable ws rs)
   unfolding entriesOf isRow
   same-entries vs ws [] n h = no-entries
@@ -119,7 +120,8 @@ module _ (p q : ℕ) (η : Handle) where
         shared = o .shared;
         log = rw (o .box, o .logRows, o .logValues);
         escrow =
-            subst (λ rs. SameEscrow (z .value) (entriesOf escrowTable (t .escrowValues) (usedEscrow t)) (entriesOf escrowTable (u .escrowValues) rs)) used
+            subst (λ rs. SameEscrow (z .value) (entriesOf escrowTable (t .escrowValues) (usedEscrow t))
+            (entriesOf escrowTable (u .escrowValues) rs)) used
             (same-entries (t .escrowValues) (u .escrowValues) (usedEscrow t) n
             (λ k l.
             let b : k < rows = omega (arith, length-take rows (t .escrowRows)) in
@@ -193,7 +195,8 @@ module _ (p q : ℕ) (η : Handle) where
       let before = only-value k v w in
       let after = subst₂ (λ x y. OnlyValue p q η x y) (sym i) (sym j) (only-value (b .state) v′ w′) in
       let one =
-      same-events (tables s) (tables t) (callOn (tables s) e) (callOn (tables t) e) (read (e .bytes)) (before .box) (before .heaps) a
+      same-events (tables s) (tables t) (callOn (tables s) e) (callOn (tables t) e) (read (e .bytes)) (before .box)
+      (before .heaps) a
       (after .box) (after .heaps) in
       record {
         answers = λ m. a m ∷ rest .answers m;

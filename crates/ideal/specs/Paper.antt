@@ -174,7 +174,7 @@ module _ (box : Tables → Element → Result) where
   Assumption-i = (t u : Tables) (n : ℕ) (d : Draw) (η ζ : ℕ) → ((h : Handle) → handleUsed t h ≡ handleUsed u h)
       → Gives t n d η → Gives u n d ζ → η ≡ ζ
 
-  -- "(ii) For different lengths j ≠ j', the supports are disjoint": whatever the boxes, draws, sources and recipients
+  -- "(ii) For different lengths j ≠ j', the supports .. are disjoint": whatever the boxes, draws, sources and recipients
   abbrev pub Assumption-ii : Type 0
   Assumption-ii = (t u : Tables) (n m : ℕ) (d c : Draw) (η : ℕ) → Gives t n d η → Gives u m c η → n ≡ m
 

@@ -68,6 +68,7 @@ module _ (box : Tables → Element → Result) where
 
   -- so no later tenant reads what the service left there
   abbrev pub TenantReadsZeros : Type 0
-  TenantReadsZeros = (es : List Element) (p k m offset size used₁ used₂ : ℕ) → k < m → Accepts box es k exit used₁ → RunsAt box es p k
+  TenantReadsZeros = (es : List Element) (p k m offset size used₁ used₂ : ℕ) → k < m → Accepts box es k exit used₁
+      → RunsAt box es p k
       → ((j : ℕ) → k < j → j < m → WritesAt box es p j → ⊥) → Accepts box es m (heapRead p offset size) used₂
       → answerAt box es m .shown ≡ replicate size 0
