@@ -1,58 +1,67 @@
 // Runs a script of records from standard input on a fresh box, and prints its answer sheet.
 ghost use mathlib.Core.Path.{_≡_};
 ghost use Prim.Native.Nat.{_+_, _<_, _≤_, min};
-ghost use lib.ListN.{length};
+ghost use lib.ListN.{length, take};
+ghost use Rattle.sheet.specs.Sheet.{header, sheet};
+ghost use Rattle.boxrun.specs.Outcomes.{Within, Whole};
 use libc::STDERR_FILENO;
 use libc::STDIN_FILENO;
 use libc::STDOUT_FILENO;
 
-enum Input {
+// How many bytes were read or written, or that this failed.
+enum Outcome {
     Bytes(usize),
     Failed,
 }
 
 // Reads until the buffer is full or the input ends.
-fn read_script(script: &mut [u8]) -> Input {
+fn read_script(script: &mut [u8]) -> Outcome
+    ensures { λ r. ⌜ Within r (length (now (script .exit))) ⌝ }
+{
     let mut n: usize = 0;
     while n < script.len() {
         let part = &mut script[n..];
         let got = libc::read(STDIN_FILENO, part);
         if got < 0 {
-            return Input::Failed;
+            return Outcome::Failed;
         }
         let more = io::count(got, part);
         if more == 0 {
-            return Input::Bytes(n);
+            return Outcome::Bytes(n);
         }
         n += more;
     }
-    Input::Bytes(n)
+    Outcome::Bytes(n)
 }
 
-// The first n bytes, on standard output.
-fn print_front(bytes: &[u8], n: usize) -> bool
-    requires { ⌜ n ≤ length (now bytes) ⌝ }
+// All bytes, on standard output.
+fn print(bytes: &[u8]) -> Outcome
+    ensures { λ r. ⌜ Whole r (now (bytes .entry)) ⌝ }
 {
-    io::write_all(STDOUT_FILENO, &bytes[..n])
+    if io::write_all(STDOUT_FILENO, bytes) {
+        Outcome::Bytes(bytes.len())
+    } else {
+        Outcome::Failed
+    }
 }
 
-// Where the next record begins. A record that is not the last uses two bytes at least (theorem `uses` of
-// sheet), so used is never 0 here: the test makes the loop's end plain. Past the end nothing is left.
+// Where the next record begins. Past the end nothing is left.
 fn next_place(at: usize, used: usize, end: usize) -> usize
     requires { ⌜ at < end ⌝ }
-    ensures { λ r. ⌜ (at < r) × (r ≤ end) × (0 < used → r ≡ min (at + used) end) ⌝ }
+    ensures { λ r. ⌜ r ≡ min (at + used) end ⌝ }
 {
-    if used == 0 {
-        return end;
-    }
     if used > end - at {
         return end;
     }
     at + used
 }
 
-// A line a record, until no input is left, after a line that is the last, or where writing fails.
-fn run(script: &[u8]) {
+// A line a record after the header, until no input is left, after a line that is the last, or where writing fails.
+// `printed` counts the header.
+fn run(script: &[u8], printed: usize) -> Outcome
+    requires { ⌜ (length (now script) ≤ 65536) × (printed ≡ length header) ⌝ }
+    ensures { λ r. ⌜ Whole r (sheet (now (script .entry))) ⌝ }
+{
     let mut b = state::fresh_record();
     let mut log = state::fresh_log();
     let mut escrow = state::fresh_escrow();
@@ -62,6 +71,7 @@ fn run(script: &[u8]) {
     let mut escrow_values = [0u8; 4096];
     let mut output = [0u8; 1024];
     let mut line = [0u8; 2113];
+    let mut total = printed;
     let mut at: usize = 0;
     while at < script.len() {
         let next = sheet::next_line(
@@ -76,11 +86,13 @@ fn run(script: &[u8]) {
             &script[at..],
             &mut line,
         );
-        if !print_front(&line, next.size) {
-            return;
-        }
+        let size = next.size;
+        let Outcome::Bytes(n) = print(&line[..size]) else {
+            return Outcome::Failed;
+        };
+        total += n;
         if next.last {
-            return;
+            return Outcome::Bytes(total);
         }
         let reply = next.reply;
         b = reply.held;
@@ -88,31 +100,39 @@ fn run(script: &[u8]) {
         escrow = reply.escrow;
         at = next_place(at, reply.used, script.len());
     }
+    Outcome::Bytes(total)
 }
 
 // The sheet of the script in the first n bytes.
-fn print_sheet(script: &[u8], n: usize) {
-    io::write_all(STDOUT_FILENO, &sheet::header());
-    if n > 65536 {
-        io::write_all(STDOUT_FILENO, &sheet::too_long());
-        return;
+fn print_sheet(script: &[u8], n: usize) -> Outcome
+    requires { ⌜ n ≤ length (now script) ⌝ }
+    ensures { λ r. ⌜ Whole r (sheet (take n (now (script .entry)))) ⌝ }
+{
+    let Outcome::Bytes(head) = print(&sheet::header()) else {
+        return Outcome::Failed;
+    };
+    if n <= 65536 {
+        return run(&script[..n], head);
     }
-    // never met, since read_script reads no more than the buffer holds
-    if n > script.len() {
-        return;
-    }
-    run(&script[..n]);
+    let Outcome::Bytes(line) = print(&sheet::too_long()) else {
+        return Outcome::Failed;
+    };
+    Outcome::Bytes(head + line)
 }
 
 fn main() {
     let mut script = [0u8; 65537];
-    match read_script(&mut script) {
-        Input::Bytes(n) => print_sheet(&script, n),
-        Input::Failed => {
-            io::write_all(
-                STDERR_FILENO,
-                b"boxrun: standard input cannot be read; no sheet is printed\n",
-            );
-        }
+    let Outcome::Bytes(n) = read_script(&mut script) else {
+        io::write_all(
+            STDERR_FILENO,
+            b"boxrun: standard input cannot be read; no sheet is printed\n",
+        );
+        return;
+    };
+    if let Outcome::Failed = print_sheet(&script, n) {
+        io::write_all(
+            STDERR_FILENO,
+            b"boxrun: standard output cannot be written; the sheet is not whole\n",
+        );
     }
 }

@@ -43,7 +43,7 @@ uses t rest h =
 
 -- ---- no line is missing
 
-called-sound : (t : Tables) (rest : List ℕ) → Sound t 1024 → Sound (turn t rest .tables) 1024
+pub called-sound : (t : Tables) (rest : List ℕ) → Sound t 1024 → Sound (turn t rest .tables) 1024
 unfolding turn called
 called-sound t rest h = stays-sound t (record { bytes = rest; outputSize = 1024 }) h
 

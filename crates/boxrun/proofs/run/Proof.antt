@@ -1,18 +1,21 @@
 use borrow.Author.Needs.{needs}
 use native.Mathlib.Omega.{arith}
 use Prim.Native.Nat.{_≤_, _-_}
-use mathlib.Core.Path.{_≡_}
+use mathlib.Core.Path.{_≡_, sym}
+use lib.Seq.{length-take-le}
 use lib.ListN.{length}
+use Rattle.sound.specs.Parts.{tablesOf}
+use Rattle.boxrun.proofs.Going.{Going, begins, done, short, room, stopped-here, further, went-further}
 use Rattle.boxrun.proofs.run.Statement.{statement}
 use Rattle.boxrun.proofs.run.Tie as tie
 
 abbrev Inv-loop : tie.InvT-loop
-Inv-loop script b₀ log₀ escrow₀ heaps₀ shared₀ log-values₀ escrow-values₀ output₀ line₀ at₀ b log escrow heaps shared log-values escrow-values output line at =
-    (at ≤ length script) × (4096 ≡ length heaps) × (1024 ≡ length shared) × (4096 ≡ length log-values) × (4096 ≡ length escrow-values)
+Inv-loop script printed b₀ log₀ escrow₀ heaps₀ shared₀ log-values₀ escrow-values₀ output₀ line₀ total₀ at₀ b log escrow heaps shared log-values escrow-values output line total at =
+    Going script (tablesOf b log escrow heaps shared log-values escrow-values) at total × (at ≤ length script) × (4096 ≡ length heaps) × (1024 ≡ length shared) × (4096 ≡ length log-values) × (4096 ≡ length escrow-values)
     × (1024 ≡ length output) × (2113 ≡ length line)
 
 abbrev μ-loop : tie.MeasureT-loop
-μ-loop script b₀ log₀ escrow₀ heaps₀ shared₀ log-values₀ escrow-values₀ output₀ line₀ at₀ b log escrow heaps shared log-values escrow-values output line at =
+μ-loop script printed b₀ log₀ escrow₀ heaps₀ shared₀ log-values₀ escrow-values₀ output₀ line₀ total₀ at₀ b log escrow heaps shared log-values escrow-values output line total at =
     length script - at
 
 fresh-record-requires : tie.Need-fresh-record-requires Inv-loop μ-loop
@@ -25,7 +28,18 @@ fresh-escrow-requires : tie.Need-fresh-escrow-requires Inv-loop μ-loop
 fresh-escrow-requires c κs = search needs
 
 loop-holds : tie.Need-loop-holds Inv-loop μ-loop
-loop-holds c = search needs
+loop-holds c =
+    let start = c .before .before .before .before in (
+      begins (start .args .script .now) (start .args .printed) _ _ _ (c .before .before .fresh-record .ensures) (c .before .fresh-log .ensures)
+          (c .fresh-escrow .ensures) (start .pre .0) (start .pre .1),
+      search needs,
+      search needs,
+      search needs,
+      search needs,
+      search needs,
+      search needs,
+      search needs,
+    )
 
 slice-aggregate-next-line : tie.Need-slice-aggregate-next-line Inv-loop μ-loop
 slice-aggregate-next-line c = search needs
@@ -57,32 +71,67 @@ slice-aggregate-next-line-6 c = search needs
 next-line-requires : tie.Need-next-line-requires Inv-loop μ-loop
 next-line-requires c κs = search needs
 
-slice-aggregate-print-front : tie.Need-slice-aggregate-print-front Inv-loop μ-loop
-slice-aggregate-print-front c = search needs
+array-share-prefix-line : tie.Need-array-share-prefix-line Inv-loop μ-loop
+array-share-prefix-line c =
+    omega (arith, c .before .before .before .before .before .before .next-line .ensures .front .fits)
 
-print-front-requires : tie.Need-print-front-requires Inv-loop μ-loop
-print-front-requires c κs = search needs
+slice-aggregate-print : tie.Need-slice-aggregate-print Inv-loop μ-loop
+slice-aggregate-print c =
+    sym (length-take-le _ _ (omega (arith, c .before .before .before .before .before .before .before .next-line .ensures .front .fits)))
+
+print-requires : tie.Need-print-requires Inv-loop μ-loop
+print-requires c κs = search needs
+
+enum-known-n : tie.Need-enum-known-n Inv-loop μ-loop
+enum-known-n c = search needs
+
+enum-told : tie.Need-enum-told Inv-loop μ-loop
+enum-told c = search needs
 
 returns : tie.Need-returns Inv-loop μ-loop
 returns c = search needs
 
+add-total : tie.Need-add-total Inv-loop μ-loop
+add-total c =
+    let start = c .before .before .before .before .before .before .before .before .before .before .before .before .before .before .before .before .before .before .before .before .before .before .before .before .before in
+    let at-loop = c .before .before .before .before .before .before .before .before .before .before .before .before .before .before .before .before .before .before .before .before .loop in
+    let size = rw (c .before .n .given .1) at (c .before .before .before .print .ensures) in
+    let made = c .before .before .before .before .before .before .before .before .before .before .before .next-line .ensures in
+    record { fits = room (at-loop .inv .0) (c .before .before .before .before .before .before .before .before .before .before .before .before .before .before .before .before .before .before .before .loop-test .taken) (start .pre .0) (short made size (at-loop .inv .7)) }
+
 returns-2 : tie.Need-returns-2 Inv-loop μ-loop
-returns-2 c = search needs
+returns-2 c =
+    let size = rw (c .before .before .n .given .1) at (c .before .before .before .before .print .ensures) in
+    let going = c .before .before .before .before .before .before .before .before .before .before .before .before .before .before .before .before .before .before .before .before .before .loop .inv .0 in
+    stopped-here going (c .before .before .before .before .before .before .before .before .before .before .before .before .before .before .before .before .before .before .before .before .loop-test .taken) (c .before .before .before .before .before .before .before .before .before .before .before .before .next-line .ensures .same) size (c .if1 .taken)
 
 next-place-requires : tie.Need-next-place-requires Inv-loop μ-loop
 next-place-requires c κs = search needs
 
 loop-less : tie.Need-loop-less Inv-loop μ-loop
-loop-less c = search needs
+loop-less c =
+    let size = rw (c .before .before .before .before .before .before .before .n .given .1) at (c .before .before .before .before .before .before .before .before .before .print .ensures) in
+    let going = c .before .before .before .before .before .before .before .before .before .before .before .before .before .before .before .before .before .before .before .before .before .before .before .before .before .before .loop .inv .0 in
+    let next = further going (c .before .before .before .before .before .before .before .before .before .before .before .before .before .before .before .before .before .before .before .before .before .before .before .before .before .loop-test .taken) (c .before .before .before .before .before .before .before .before .before .before .before .before .before .before .before .before .before .next-line .ensures .same) size (c .before .before .before .before .before .if1 .left) in
+    omega (arith, next, c .next-place .ensures)
 
 loop-again : tie.Need-loop-again Inv-loop μ-loop
 loop-again c =
-    let called = c .before .before .before .before .before .before .before .before .before .before .before .before .before .before .before .next-line in
-    let turn = c .before .before .before .before .before .before .before .before .before .before .before .before .before .before .before .before .before .before .before .before .before .before .before .before .loop in
-    (c .next-place .ensures .1, omega arith, omega arith, omega arith, omega arith, omega arith, omega arith)
+    let size = rw (c .before .before .before .before .before .before .before .n .given .1) at (c .before .before .before .before .before .before .before .before .before .print .ensures) in
+    let going = c .before .before .before .before .before .before .before .before .before .before .before .before .before .before .before .before .before .before .before .before .before .before .before .before .before .before .loop .inv .0 in (
+      rw (c .next-place .ensures) (went-further going (c .before .before .before .before .before .before .before .before .before .before .before .before .before .before .before .before .before .before .before .before .before .before .before .before .before .loop-test .taken) (c .before .before .before .before .before .before .before .before .before .before .before .before .before .before .before .before .before .next-line .ensures .same) size (c .before .before .before .before .before .if1 .left) (short (c .before .before .before .before .before .before .before .before .before .before .before .before .before .before .before .before .before .next-line .ensures) size (c .before .before .before .before .before .before .before .before .before .before .before .before .before .before .before .before .before .before .before .before .before .before .before .before .before .before .loop .inv .7))),
+      omega (arith, c .next-place .ensures),
+      search needs,
+      search needs,
+      search needs,
+      search needs,
+      search needs,
+      search needs,
+    )
 
 returns-3 : tie.Need-returns-3 Inv-loop μ-loop
-returns-3 c = search needs
+returns-3 c =
+    done (c .before .loop .inv .0) (c .loop-test .left)
 
 pub run-spec : {M : Type 1} → statement M
 run-spec =
@@ -104,9 +153,13 @@ run-spec =
     part-next-line-end
     slice-aggregate-next-line-6
     next-line-requires
-    slice-aggregate-print-front
-    print-front-requires
+    array-share-prefix-line
+    slice-aggregate-print
+    print-requires
+    enum-known-n
+    enum-told
     returns
+    add-total
     returns-2
     next-place-requires
     loop-less
