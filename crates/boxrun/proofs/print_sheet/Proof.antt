@@ -62,15 +62,19 @@ returns-3 c = search needs
 add-t18 : tie.Need-add-t18
 unfolding header tooLong bytesOf
 add-t18 c =
-    let head = rw (c .before .before .before .before .before .before .before .before .head .given .1) at (c .before .before .before .before .before .before .before .before .before .before .print .ensures) ∙ ap length (c .before .before .before .before .before .before .before .before .before .before .before .before .header .ensures) in
-    let line = rw (c .before .line .given .1) at (c .before .before .before .print2 .ensures) ∙ ap length (c .before .before .before .before .before .too-long .ensures) in
+    let line-put = c .before .before .before in
+    let head-put = line-put .before .before .before .before .before .before .before in
+    let head = rw (c .before .before .before .before .before .before .before .before .head .given .1) at (head-put .print .ensures) ∙ ap length (head-put .before .before .header .ensures) in
+    let line = rw (c .before .line .given .1) at (line-put .print2 .ensures) ∙ ap length (line-put .before .before .too-long .ensures) in
     record { fits = omega (arith, head, line) }
 
 returns-4 : tie.Need-returns-4
 returns-4 c =
-    let start = c .before .before .before .before .before .before .before .before .before .before .before .before .before .before in
-    let head = rw (c .before .before .before .before .before .before .before .before .head .given .1) at (c .before .before .before .before .before .before .before .before .before .before .print .ensures) ∙ ap length (c .before .before .before .before .before .before .before .before .before .before .before .before .header .ensures) in
-    let line = rw (c .before .line .given .1) at (c .before .before .before .print2 .ensures) ∙ ap length (c .before .before .before .before .before .too-long .ensures) in
+    let line-put = c .before .before .before in
+    let head-put = line-put .before .before .before .before .before .before .before in
+    let head = rw (c .before .before .before .before .before .before .before .before .head .given .1) at (head-put .print .ensures) ∙ ap length (head-put .before .before .header .ensures) in
+    let line = rw (c .before .line .given .1) at (line-put .print2 .ensures) ∙ ap length (line-put .before .before .too-long .ensures) in
+    let start = head-put .before .before .before .before in
     let n = length-take-le (start .args .n) (start .args .script .now) (start .pre) in
     let text = too-long (take (start .args .n) (start .args .script .now)) (omega (arith, n, c .before .before .before .before .before .before .if1 .left)) in
     omega (arith, head, line, text)

@@ -93,41 +93,58 @@ returns c = search needs
 
 add-total : tie.Need-add-total Inv-loop μ-loop
 add-total c =
-    let start = c .before .before .before .before .before .before .before .before .before .before .before .before .before .before .before .before .before .before .before .before .before .before .before .before .before in
-    let at-loop = c .before .before .before .before .before .before .before .before .before .before .before .before .before .before .before .before .before .before .before .before .loop in
-    let size = rw (c .before .n .given .1) at (c .before .before .before .print .ensures) in
-    let made = c .before .before .before .before .before .before .before .before .before .before .before .next-line .ensures in
-    record { fits = room (at-loop .inv .0) (c .before .before .before .before .before .before .before .before .before .before .before .before .before .before .before .before .before .before .before .loop-test .taken) (start .pre .0) (short made size (at-loop .inv .7)) }
+    let known = c .before in
+    let put = known .before .before in
+    let made = put .before .before .before .before .before .before .before .before in
+    let test = made .before .before .before .before .before .before .before .before in
+    let kept = test .before .loop .inv in
+    let size = rw (known .n .given .1) at (put .print .ensures) in
+    let start = test .before .before .before .before .before .before in
+    record { fits = room (kept .0) (test .loop-test .taken) (start .pre .0) (short (made .next-line .ensures) size (kept .7)) }
 
 returns-2 : tie.Need-returns-2 Inv-loop μ-loop
 returns-2 c =
-    let size = rw (c .before .before .n .given .1) at (c .before .before .before .before .print .ensures) in
-    let going = c .before .before .before .before .before .before .before .before .before .before .before .before .before .before .before .before .before .before .before .before .before .loop .inv .0 in
-    stopped-here going (c .before .before .before .before .before .before .before .before .before .before .before .before .before .before .before .before .before .before .before .before .loop-test .taken) (c .before .before .before .before .before .before .before .before .before .before .before .before .next-line .ensures .same) size (c .if1 .taken)
+    let known = c .before .before in
+    let put = known .before .before in
+    let made = put .before .before .before .before .before .before .before .before in
+    let test = made .before .before .before .before .before .before .before .before in
+    let kept = test .before .loop .inv in
+    let size = rw (known .n .given .1) at (put .print .ensures) in
+    stopped-here (kept .0) (test .loop-test .taken) (made .next-line .ensures .same) size (c .if1 .taken)
 
 next-place-requires : tie.Need-next-place-requires Inv-loop μ-loop
 next-place-requires c κs = search needs
 
 loop-less : tie.Need-loop-less Inv-loop μ-loop
 loop-less c =
-    let size = rw (c .before .before .before .before .before .before .before .n .given .1) at (c .before .before .before .before .before .before .before .before .before .print .ensures) in
-    let going = c .before .before .before .before .before .before .before .before .before .before .before .before .before .before .before .before .before .before .before .before .before .before .before .before .before .before .loop .inv .0 in
-    let next = further going (c .before .before .before .before .before .before .before .before .before .before .before .before .before .before .before .before .before .before .before .before .before .before .before .before .before .loop-test .taken) (c .before .before .before .before .before .before .before .before .before .before .before .before .before .before .before .before .before .next-line .ensures .same) size (c .before .before .before .before .before .if1 .left) in
+    let known = c .before .before .before .before .before .before .before in
+    let put = known .before .before in
+    let made = put .before .before .before .before .before .before .before .before in
+    let test = made .before .before .before .before .before .before .before .before in
+    let kept = test .before .loop .inv in
+    let size = rw (known .n .given .1) at (put .print .ensures) in
+    let next = further (kept .0) (test .loop-test .taken) (made .next-line .ensures .same) size (c .before .before .before .before .before .if1 .left) in
     omega (arith, next, c .next-place .ensures)
 
 loop-again : tie.Need-loop-again Inv-loop μ-loop
-loop-again c =
-    let size = rw (c .before .before .before .before .before .before .before .n .given .1) at (c .before .before .before .before .before .before .before .before .before .print .ensures) in
-    let going = c .before .before .before .before .before .before .before .before .before .before .before .before .before .before .before .before .before .before .before .before .before .before .before .before .before .before .loop .inv .0 in (
-      rw (c .next-place .ensures) (went-further going (c .before .before .before .before .before .before .before .before .before .before .before .before .before .before .before .before .before .before .before .before .before .before .before .before .before .loop-test .taken) (c .before .before .before .before .before .before .before .before .before .before .before .before .before .before .before .before .before .next-line .ensures .same) size (c .before .before .before .before .before .if1 .left) (short (c .before .before .before .before .before .before .before .before .before .before .before .before .before .before .before .before .before .next-line .ensures) size (c .before .before .before .before .before .before .before .before .before .before .before .before .before .before .before .before .before .before .before .before .before .before .before .before .before .before .loop .inv .7))),
-      omega (arith, c .next-place .ensures),
-      search needs,
-      search needs,
-      search needs,
-      search needs,
-      search needs,
-      search needs,
-    )
+loop-again c = (
+  let known = c .before .before .before .before .before .before .before in
+      let put = known .before .before in
+      let made = put .before .before .before .before .before .before .before .before in
+      let test = made .before .before .before .before .before .before .before .before in
+      let kept = test .before .loop .inv in
+      let size = rw (known .n .given .1) at (put .print .ensures) in
+      let line = short (made .next-line .ensures) size (kept .7) in
+      let next = went-further (kept .0) (test .loop-test .taken) (made .next-line .ensures .same) size (c .before .before .before .before .before .if1 .left) line in
+      rw (c .next-place .ensures) next,
+  omega (arith, c .next-place .ensures),
+  search needs,
+  search needs,
+  search needs,
+  search needs,
+  search needs,
+  search needs,
+)
 
 returns-3 : tie.Need-returns-3 Inv-loop μ-loop
 returns-3 c =
