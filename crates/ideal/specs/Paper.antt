@@ -217,10 +217,11 @@ module _ (box : Tables → Element → Result) where
     pub events : behaviourFrom box t es ≡ behaviourFrom box u es
     pub end : OnlyValue p q η (tablesFrom box t es) (tablesFrom box u es)
 
-  -- Lemma 3 without probabilities: any two sound boxes that differ in that value alone answer every list of elements alike and
-  -- again differ in that value alone. The draws stand in the elements: they are the host's, and this holds whatever they are.
-  -- So where they are random and independent of the value, every answer, byte shown and event has the same probability for
-  -- each value; part 2 of the paper's lemma is that and Bayes' rule, which is not said here. At the protect itself it is (i).
+  -- Lemma 3 without probabilities: any two sound boxes that differ in that value alone answer every list of elements alike, and
+  -- differ in that value alone afterwards. The draws stand in the elements: they are the host's, and this holds for each choice
+  -- of them. So where they are drawn independently of the value (at the protect itself (i) says that this makes no difference),
+  -- and other elements are chosen by what was answered, all that is observed is as likely for one value as for another. Part 2
+  -- follows by Bayes' rule; it is not stated here, where nothing is random.
   abbrev pub Lemma3 : Type 0
   Lemma3 = (p q : ℕ) (η : Handle) (t u : Tables) (es : List Element) → Sound t 1024 → Sound u 1024 → OnlyValue p q η t u
       → NeverRetrieved p q η t es → AgreeBut p q η t u es
