@@ -36,11 +36,3 @@ pub mod TwoRuns
 pub mod Secret
 pub mod Differing
 pub mod Examined
-pub mod Behaviours
-pub mod Events
-pub mod Paper
-pub mod SameStep
-pub mod Unretrieved
-pub mod ServiceLife
-pub mod OwnHeapOnly
-pub mod Schematic

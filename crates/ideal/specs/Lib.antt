@@ -14,5 +14,3 @@ pub mod Secrecy
 pub mod Witness
 pub mod Exam
 pub mod Fit
-pub mod Paper
-pub mod ServiceLife

@@ -8,20 +8,20 @@ use lib.ListN.{length, List·getD-eq-default}
 use lib.Dec.{eqb, ltb}
 use borrow.Author.Tests.{eqb-true, eq-eqb, ltb-true, ltb-false, not-false}
 use Rattle.record.specs.Call.{Call}
 use Rattle.ideal.specs.State.{Escrowed, State, identityAt, heapAt, caller}
 use Rattle.ideal.specs.Tables.{Tables, tables, boxRecord, stateOf}
 use Rattle.ideal.specs.Box.{Element, laid, callOn}
 use Rattle.ideal.specs.Layouts.{Sound}
 use Rattle.ideal.specs.Valid.{Valid}
-use Rattle.ideal.specs.ServiceLife.{heapOf, OnlyOtherHeaps, ReadsOwnHeap}
+use Rattle.paper.specs.ServiceLife.{heapOf, OnlyOtherHeaps, ReadsOwnHeap}
 use Rattle.ideal.proofs.Bools.{by-cases, clash, and-false, and-other, not-is}
 use Rattle.ideal.proofs.Heaps.{chunks-length}
 use Rattle.ideal.proofs.Laid.{valid-sound, tables-state, valid-step, call-is}
 use Rattle.ideal.proofs.Hosted.{heap-is}
 use Rattle.ideal.proofs.TwoEscrows.{SameEscrow, no-entries, entry, same-escrow}
 use Rattle.ideal.proofs.TwoStates.{Secrets, SameBut, NoneTold}
-use Rattle.ideal.proofs.SameStep.{both-element}
+use Rattle.paper.proofs.SameStep.{both-element}
 use Rattle.ideal.proofs.Secret.{same-box, same-escrow-rows}
 
 -- the heaps of taken places other than p
 abbrev others : ℕ → Secrets

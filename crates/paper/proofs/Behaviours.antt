@@ -9,10 +9,10 @@ use lib.Dec.{eqb, ltb}
 use borrow.Author.Tests.{ltb-true, ltb-false}
 use Rattle.record.specs.Call.{Call, create, start, yield, exit, heapWrite, heapRead, sharedWrite, sharedRead, attest, check, protect, retrieve, report}
 use Rattle.record.specs.Read.{Reading, refused, whole, read, cut}
 use Rattle.ideal.specs.Tables.{Tables}
 use Rattle.ideal.specs.Box.{Element, Result, elementAt, tablesFrom}
-use Rattle.ideal.specs.Paper.{Event, eventOf, eventOn, events, behaviourFrom, eventAt}
+use Rattle.paper.specs.Paper.{Event, eventOf, eventOn, events, behaviourFrom, eventAt}
 use Rattle.ideal.proofs.Bools.{by-cases}
 
 few-on : (t : Tables) (r : Result) (c : Call) → length (eventOn t r c) ≤ 1
 unfolding eventOn eventOf

@@ -10,23 +10,23 @@ use lib.Dec.{eqb}
 use borrow.Author.Tests.{eqb-true, eqb-false, ltb-false, not-false}
 use Rattle.record.specs.Call.{Call, create, start, yield, exit, heapWrite, heapRead, sharedWrite, sharedRead, attest, check, protect, retrieve, report}
 use Rattle.record.specs.Write.{filled}
 use Rattle.ideal.specs.State.{State, cleared, heapAt, part, ownPart, any}
 use Rattle.ideal.specs.Step.{idle, beyond, accepted, shown, refusal, tests, effect, withHeap, withRunning, withIdentity, withShared, withLog, withEscrow, written}
 use Rattle.ideal.specs.Tables.{tables, stateOf}
 use Rattle.ideal.specs.Soundness.{sizesRight, sound}
 use Rattle.ideal.specs.Box.{Element, laid, unsound, callOn, elementAt, tablesBefore}
 use Rattle.ideal.specs.Layouts.{Sound}
 use Rattle.ideal.specs.Refusals.{oneOf}
 use Rattle.ideal.specs.Valid.{Valid}
-use Rattle.ideal.specs.ServiceLife.{heapOf, WritesOwnHeap, RunsAt, WritesAt, YieldKeeps, ExitClears, TenantReadsZeros}
+use Rattle.paper.specs.ServiceLife.{heapOf, WritesOwnHeap, RunsAt, WritesAt, YieldKeeps, ExitClears, TenantReadsZeros}
 use Rattle.ideal.proofs.Bools.{by-cases, and-left, and-right}
 use Rattle.ideal.proofs.Chain.{failed, passed}
 use Rattle.ideal.proofs.Kept.{busy}
 use Rattle.ideal.proofs.Laid.{stepElement, valid-sound, tables-state, valid-step, call-is}
 use Rattle.ideal.proofs.Memory.{part-at}
 use Rattle.ideal.proofs.Table.{part-length}
 use Rattle.ideal.proofs.Hosted.{heap-is}
 use Rattle.ideal.proofs.Runs.{stateBefore, valid-before, tables-before, running-before, stays, moves, moved, accepted-call, accepted-at, accepts-at, answer-at, state-next, state-after}
 
 -- ---- what an accepted call does to the heap of place p
 

@@ -11,22 +11,22 @@ use borrow.Author.Tests.{eqb-true}
 use Rattle.record.specs.declared.Handle.{Handle}
 use Rattle.record.specs.Call.{Call, create, start, yield, exit, heapWrite, heapRead, sharedWrite, sharedRead, attest, check, protect, retrieve, report}
 use Rattle.record.specs.Read.{Reading, refused, whole, read}
 use Rattle.ideal.specs.declared.EscrowRow.{EscrowRow}
 use Rattle.ideal.specs.State.{State, caller, part}
 use Rattle.ideal.specs.Step.{refusal}
 use Rattle.ideal.specs.Tables.{Tables, escrowTable, entryOf, entriesOf, usedEscrow, boxRecord, tables, stateOf}
 use Rattle.ideal.specs.Box.{Element, Result, laid, callOn, elementAt, tablesFrom, answersFrom}
 use Rattle.ideal.specs.Layouts.{Sound}
 use Rattle.ideal.specs.Refusals.{isRow}
 use Rattle.ideal.specs.Valid.{Valid}
-use Rattle.ideal.specs.Paper.{principalIn, eventOf, eventOn, events, behaviourFrom, OnlyValue, NeverRetrieved, AgreeBut, Lemma3}
+use Rattle.paper.specs.Paper.{principalIn, eventOf, eventOn, events, behaviourFrom, OnlyValue, NeverRetrieved, AgreeBut, Lemma3}
 use Rattle.ideal.proofs.Bools.{by-cases, and-left, and-right}
 use Rattle.ideal.proofs.Facts.{facts}
 use Rattle.ideal.proofs.Laid.{stepElement, valid-sound, tables-state, valid-step, call-is}
 use Rattle.ideal.proofs.TwoEscrows.{SameEntry, SameEscrow, no-entries, entry}
 use Rattle.ideal.proofs.TwoStates.{Secrets, SameBut, length-part, NoneTold}
-use Rattle.ideal.proofs.SameStep.{both-element}
+use Rattle.paper.proofs.SameStep.{both-element}
 use Rattle.ideal.proofs.Secret.{accepted-code, same-box, same-escrow-rows, same-escrow-values}
 
 -- the value under one key may differ, and no heap
 abbrev pub unretrieved : ℕ → ℕ → Handle → Secrets

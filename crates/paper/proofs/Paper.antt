@@ -10,19 +10,19 @@ use borrow.Author.Tests.{eqb-true, eq-eqb, ltb-true, ltb-false}
 use Rattle.record.specs.declared.Handle.{Handle}
 use Rattle.record.specs.declared.Draw.{Draw}
 use Rattle.record.specs.Call.{attest, protect, retrieve}
 use Rattle.ideal.specs.Step.{idle, tests, first, refusal}
 use Rattle.ideal.specs.Tables.{Tables, freshTables}
 use Rattle.ideal.specs.Box.{Element, callOn, elementAt, tablesBefore, answerAt}
 use Rattle.ideal.specs.Refusals.{ownBytes}
 use Rattle.ideal.specs.Accuracy.{Earlier, ProtectsAt, candidate, handleUsed, FirstFree}
-use Rattle.ideal.specs.Paper.{Command, iattest, icheck, iprotect, iretrieve, Response, truth, value, fails, behaviour, needsService, Lemma1-1, Lemma1-2, Lemma2-1, Lemma2-2, OnlyServices, Definition1, Gives, Assumption-i, Assumption-ii, Assumption-iii}
+use Rattle.paper.specs.Paper.{Command, iattest, icheck, iprotect, iretrieve, Response, truth, value, fails, behaviour, needsService, Lemma1-1, Lemma1-2, Lemma2-1, Lemma2-2, OnlyServices, Definition1, Gives, Assumption-i, Assumption-ii, Assumption-iii}
 use Rattle.ideal.proofs.Bools.{by-cases, clash}
 use Rattle.ideal.proofs.Runs.{stateBefore, running-before, code-at}
 use Rattle.ideal.proofs.Checks.{check-at}
 use Rattle.ideal.proofs.Retrieves.{retrieve-at, handed}
 use Rattle.ideal.proofs.Accurate.{handle-once, handle-is-first-free}
-use Rattle.ideal.proofs.Behaviours.{event-of}
-use Rattle.ideal.proofs.Events.{EventOf, fails?, event-at, earlier, event-earlier, sized, reads-as, gave, logs-at, protects-at, caller-is, runs-none, gave-it, attest-event, check-event, protect-event, retrieve-event, after-retrieve}
+use Rattle.paper.proofs.Behaviours.{event-of}
+use Rattle.paper.proofs.Events.{EventOf, fails?, event-at, earlier, event-earlier, sized, reads-as, gave, logs-at, protects-at, caller-is, runs-none, gave-it, attest-event, check-event, protect-event, retrieve-event, after-retrieve}
 
 -- ---- Definition 1
 

@@ -14,16 +14,16 @@ use Rattle.record.specs.declared.Handle.{Handle}
 use Rattle.record.specs.declared.Draw.{Draw}
 use Rattle.record.specs.Call.{Call, create, start, yield, exit, heapWrite, heapRead, sharedWrite, sharedRead, attest, check, protect, retrieve, report}
 use Rattle.record.specs.Read.{Reading, refused, whole, read}
 use Rattle.ideal.specs.Tables.{Tables, freshTables}
 use Rattle.ideal.specs.Box.{Element, Result, callOn, elementAt, tablesAfter, tablesBefore, answerAt}
 use Rattle.ideal.specs.Refusals.{callerIn, ownBytes}
 use Rattle.ideal.specs.Accuracy.{Earlier, LogsAt, ProtectsAt, HandsOut, Sized, Says}
-use Rattle.ideal.specs.Paper.{Command, iattest, icheck, iprotect, iretrieve, Response, tag, truth, handle, value, fails, Event, principalIn, eventOf, eventOn, events, behaviour, eventAt}
+use Rattle.paper.specs.Paper.{Command, iattest, icheck, iprotect, iretrieve, Response, tag, truth, handle, value, fails, Event, principalIn, eventOf, eventOn, events, behaviour, eventAt}
 use Rattle.ideal.proofs.Bools.{by-cases, clash}
 use Rattle.ideal.proofs.Runs.{stateBefore, valid-before, running-before, tables-next, sized-at, accepted-at}
 use Rattle.ideal.proofs.Logs.{attest-passed}
 use Rattle.ideal.proofs.Escrows.{protect-passed}
-use Rattle.ideal.proofs.Behaviours.{eventsAt, countAt, call-of, event-of, call-before, event-before, in-list}
+use Rattle.paper.proofs.Behaviours.{eventsAt, countAt, call-of, event-of, call-before, event-before, in-list}
 
 -- ---- an event, and the call that it is of
 

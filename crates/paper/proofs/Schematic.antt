@@ -15,30 +15,30 @@ use Rattle.record.specs.Read.{whole, read}
 use Rattle.record.specs.Write.{write, filled}
 use Rattle.record.specs.Statements.{ReadsBack, Fits}
 use Rattle.record.proofs.RoundTrip.{reads-back}
 use Rattle.ideal.specs.State.{State, heapAt, caller, part, ownPart}
 use Rattle.ideal.specs.Step.{refusal, tests, first, idle, beyond, effect, number, withHeap, withEscrow, written, protected, accepted}
 use Rattle.ideal.specs.Tables.{Tables, freshTables, boxRecord, tables}
 use Rattle.ideal.specs.Box.{Element, Result, laid, callOn, elementAt, tablesFrom, tablesAfter, tablesBefore}
 use Rattle.ideal.specs.Refusals.{ownBytes}
 use Rattle.ideal.specs.Accuracy.{ProtectsAt}
 use Rattle.ideal.specs.History.{within}
 use Rattle.ideal.specs.Valid.{Valid}
 use Rattle.ideal.specs.Witness.{element}
-use Rattle.ideal.specs.Paper.{iprotect, iretrieve, handle, value, Event, eventOn, events, behaviourFrom, behaviour, eventAt, Occurs, NeverRetrieved, BehavesWithTwo, Lemma3-1}
+use Rattle.paper.specs.Paper.{iprotect, iretrieve, handle, value, Event, eventOn, events, behaviourFrom, behaviour, eventAt, Occurs, NeverRetrieved, BehavesWithTwo, Lemma3-1}
 use Rattle.ideal.proofs.Bools.{by-cases, clash, and-left, and-right, and-true}
 use Rattle.ideal.proofs.Memory.{sets-byte, part-at}
 use Rattle.ideal.proofs.Facts.{facts}
 use Rattle.ideal.proofs.Accepts.{sound-of}
 use Rattle.ideal.proofs.Kept.{own-size}
 use Rattle.ideal.proofs.Laid.{valid-effect, call-is}
 use Rattle.ideal.proofs.Runs.{stateBefore, valid-before, tables-before, caller-before, own-before, Accepted, accepted-call, accepted-at, number-at}
 use Rattle.ideal.proofs.OwnHeap.{own-bytes, written-stands}
 use Rattle.ideal.proofs.Escrows.{ProtectPassed, protect-passed}
 use Rattle.ideal.proofs.TwoEscrows.{SameEntry, same-escrow, same-more}
 use Rattle.ideal.proofs.TwoStates.{SameHeaps, SameBut}
-use Rattle.ideal.proofs.Behaviours.{countAt, eventsAt, event-of, past, behaviour-append}
-use Rattle.ideal.proofs.Events.{EventOf, event-at, protects-at, accepted-event, made, principal-is}
-use Rattle.ideal.proofs.Unretrieved.{unretrieved, run}
+use Rattle.paper.proofs.Behaviours.{countAt, eventsAt, event-of, past, behaviour-append}
+use Rattle.paper.proofs.Events.{EventOf, event-at, protects-at, accepted-event, made, principal-is}
+use Rattle.paper.proofs.Unretrieved.{unretrieved, run}
 
 -- ---- a part of a heap overwritten, and put back
 

@@ -1,0 +1,8 @@
+pub mod SameStep
+pub mod Behaviours
+pub mod Events
+pub mod Paper
+pub mod Unretrieved
+pub mod Schematic
+pub mod ServiceLife
+pub mod OwnHeapOnly
