@@ -16,7 +16,7 @@ use Rattle.state.specs.declared.LogTable.{LogTable}
 use Rattle.state.specs.declared.EscrowTable.{EscrowTable}
 use Rattle.sound.specs.Parts.{tablesOf}
 use Rattle.sheet.specs.Sheet.{bytesOf, header, tooLong, sheet}
-use Rattle.sheet.specs.Next.{TurnMade}
+use Rattle.turns.specs.Next.{TurnMade}
 use Rattle.sheet.specs.Turns.{Turn, turn, Loop, nothing-left, stopped, went-on, joined}
 use Rattle.sheet.proofs.Loops.{uses, called-sound, writes-sheet}
 

@@ -74,7 +74,7 @@ fn run(script: &[u8], printed: usize) -> Outcome
     let mut total = printed;
     let mut at: usize = 0;
     while at < script.len() {
-        let next = sheet::next_line(
+        let next = turns::next_line(
             b,
             log,
             escrow,

@@ -1,5 +1,4 @@
 pub mod Texts
 pub mod Readings
 pub mod Loops
-pub mod NextTurn
 pub mod Examples

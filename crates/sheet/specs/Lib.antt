@@ -2,4 +2,3 @@ pub mod Sheet
 pub mod Stored
 pub mod Turns
 pub mod Examples
-pub mod Next

@@ -1,9 +1,6 @@
 // The text of the answer sheet.
-mod next;
 mod text;
 
-pub use next::NextLine;
-pub use next::next_line;
 ghost use mathlib.Core.Path.{_≡_};
 ghost use Prim.Native.Nat.{_+_, _*_, _≤_};
 ghost use lib.ListN.{length};

@@ -1,8 +1,8 @@
 use native.Mathlib.Omega.{arith}
-use Rattle.sheet.proofs.NextTurn.{shown-fits, turn-called}
+use Rattle.turns.proofs.NextTurn.{shown-fits, turn-called}
 use borrow.Author.Needs.{needs}
-use Rattle.sheet.proofs.next.next_line.Statement.{statement}
-use Rattle.sheet.proofs.next.next_line.Tie as tie
+use Rattle.turns.proofs.next_line.Statement.{statement}
+use Rattle.turns.proofs.next_line.Tie as tie
 
 call-requires : tie.Need-call-requires
 call-requires c κs = search needs

@@ -9,10 +9,10 @@ use Rattle.ideal.specs.Step.{Answer}
 use Rattle.ideal.specs.Tables.{Tables}
 use Rattle.ideal.specs.Box.{outputAfter}
 use Rattle.calls.specs.Entry.{EntryResult, resultOn, entryOn}
 use Rattle.sheet.specs.Sheet.{line, lastCode, stops, called}
 use Rattle.sheet.specs.Stored.{AtFront}
 use Rattle.sheet.specs.Turns.{turn}
-use Rattle.sheet.specs.Next.{TurnMade}
+use Rattle.turns.specs.Next.{TurnMade}
 
 -- the answer, its shown bytes read from the output buffer
 abbrev pub answerOf : EntryResult → Answer

@@ -4,9 +4,9 @@ use mathlib.Core.Path.{_≡_}
 use mathlib.Core.List.{List}
 use lib.ListN.{take}
 use Rattle.sound.specs.Parts.{tablesOf}
-use Rattle.sheet.specs.declared.next.NextLine.{NextLine}
+use Rattle.turns.specs.declared.NextLine.{NextLine}
 use Rattle.sheet.specs.Stored.{AtFront}
 use Rattle.sheet.specs.Turns.{Turn}
 
 abbrev pub turnOf : NextLine → (heaps shared logValues escrowValues out : List ℕ) → Turn
 turnOf r heaps shared logValues escrowValues out =

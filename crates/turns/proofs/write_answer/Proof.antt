@@ -1,8 +1,8 @@
 use mathlib.Core.Path.{sym}
 use lib.Seq.{length-take-le}
 use borrow.Author.Needs.{needs}
-use Rattle.sheet.proofs.next.write_answer.Statement.{statement}
-use Rattle.sheet.proofs.next.write_answer.Tie as tie
+use Rattle.turns.proofs.write_answer.Statement.{statement}
+use Rattle.turns.proofs.write_answer.Tie as tie
 
 slice-aggregate-write-line : tie.Need-slice-aggregate-write-line
 slice-aggregate-write-line c =
