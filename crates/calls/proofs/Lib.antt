@@ -1,3 +1,5 @@
 pub mod ByKind
+pub mod Carried
 pub mod Ready
+pub mod Rest
 pub mod Whole

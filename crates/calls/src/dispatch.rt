@@ -1,10 +1,13 @@
 // The thirteen kinds, each to the function that carries it out.
 ghost use mathlib.Core.Path.{_≡_};
+ghost use Prim.Native.Nat.{ℕ};
 ghost use lib.ListN.{length};
 ghost use Rattle.record.specs.Meaning.{bytesIn, callIn, PartWithin, CallWithin};
 ghost use Rattle.ideal.specs.Layouts.{Sound};
 ghost use Rattle.sound.specs.Parts.{tablesOf};
 ghost use Rattle.calls.specs.Entry.{resultOf, carriedOn};
+ghost use Rattle.calls.specs.Replies.{replyAnswer};
+ghost use Rattle.calls.specs.Alone.{Alone};
 use crate::Reply;
 use crate::answers::reply_answer;
 use crate::answers::reply_box;
@@ -26,6 +29,7 @@ use services::exit_running;
 use services::report;
 use services::start;
 use services::yield_running;
+use state::Answer;
 use state::EscrowTable;
 use state::LogTable;
 
@@ -37,6 +41,61 @@ fn bytes_of(bytes: &[u8], part: Part) -> &[u8]
     let start = part.start;
     let end = start + part.count as usize;
     &bytes[start..end]
+}
+
+// A call of a kind that alters neither table: it has an answer alone.
+fn answer_alone(
+    b: BoxRecord,
+    log: LogTable,
+    escrow: EscrowTable,
+    heaps: &mut [u8],
+    shared: &mut [u8],
+    log_values: &[u8],
+    escrow_values: &[u8],
+    output: &mut [u8],
+    bytes: &[u8],
+    called: Call,
+) -> Answer
+    requires { ⌜
+        Sound (tablesOf b log escrow (now heaps) (now shared) (now «log_values») (now «escrow_values»)) (length (now output))
+        ⌝ }
+    requires { ⌜ CallWithin (now bytes) called ⌝ }
+    requires { ⌜ Alone called ⌝ }
+    ensures { λ r. ⌜
+        ((used : ℕ) →
+        resultOf (replyAnswer b log escrow r used) (now (heaps .exit)) (now (shared .exit)) (now («log_values» .exit)) (now («escrow_values» .exit)) (now (output .exit))
+        ≡ carriedOn (tablesOf b log escrow (now (heaps .entry)) (now (shared .entry)) (now («log_values» .entry)) (now («escrow_values» .entry)))
+        (callIn (now (bytes .entry)) called) used (now (output .entry)))
+        ⌝ }
+{
+    match called {
+        Call::HeapWrite {
+            place,
+            offset,
+            bytes: part,
+        } => heap_write(b, heaps, place, offset, bytes_of(bytes, part)),
+        Call::HeapRead {
+            place,
+            offset,
+            length,
+        } => heap_read(b, heaps, output, place, offset, length),
+        Call::SharedWrite {
+            offset,
+            bytes: part,
+        } => shared_write(shared, offset, bytes_of(bytes, part)),
+        Call::SharedRead { offset, length } => shared_read(shared, output, offset, length),
+        Call::Check {
+            identity,
+            tag,
+            bytes: part,
+        } => check_pair(b, log, log_values, identity, tag, bytes_of(bytes, part)),
+        Call::Retrieve {
+            identity,
+            offset,
+            handle,
+        } => retrieve(b, escrow, heaps, escrow_values, identity, offset, handle),
+        _ => report(b),
+    }
 }
 
 // A call that was read, on a sound box.
@@ -64,78 +123,42 @@ pub fn carry_out(
         ⌝ }
 {
     match called {
-        Call::Create { place, identity } => {
-            let a = create(b, place, identity);
-            reply_box(a, log, escrow, used)
-        }
+        Call::Create { place, identity } => reply_box(
+            create(b, place, identity),
+            log,
+            escrow,
+            used,
+        ),
         Call::Start { place } => reply_box(start(b, place), log, escrow, used),
         Call::Yield => reply_box(yield_running(b), log, escrow, used),
         Call::Exit => reply_box(exit_running(b, heaps), log, escrow, used),
-        Call::HeapWrite {
-            place,
-            offset,
-            bytes: part,
-        } => {
-            let a = heap_write(b, heaps, place, offset, bytes_of(bytes, part));
-            reply_answer(b, log, escrow, a, used)
-        }
-        Call::HeapRead {
-            place,
-            offset,
-            length,
-        } => {
-            let a = heap_read(b, heaps, output, place, offset, length);
-            reply_answer(b, log, escrow, a, used)
-        }
-        Call::SharedWrite {
-            offset,
-            bytes: part,
-        } => {
-            let a = shared_write(shared, offset, bytes_of(bytes, part));
-            reply_answer(b, log, escrow, a, used)
-        }
-        Call::SharedRead { offset, length } => {
-            let a = shared_read(shared, output, offset, length);
-            reply_answer(b, log, escrow, a, used)
-        }
         Call::Attest { offset, length } => {
             let a = attest(b, log, heaps, log_values, offset, length);
             reply_log(a, escrow, used)
         }
-        Call::Check {
-            identity,
-            tag,
-            bytes: part,
-        } => {
-            let a = check_pair(b, log, log_values, identity, tag, bytes_of(bytes, part));
-            reply_answer(b, log, escrow, a, used)
-        }
         Call::Protect {
-            identity,
+            identity: to,
             offset,
             length,
             draw,
         } => {
-            let a = protect(
-                b,
-                escrow,
-                heaps,
-                escrow_values,
-                identity,
-                offset,
-                length,
-                draw,
-            );
+            let a = protect(b, escrow, heaps, escrow_values, to, offset, length, draw);
             reply_escrow(a, log, used)
         }
-        Call::Retrieve {
-            identity,
-            offset,
-            handle,
-        } => {
-            let a = retrieve(b, escrow, heaps, escrow_values, identity, offset, handle);
+        _ => {
+            let a = answer_alone(
+                b,
+                log,
+                escrow,
+                heaps,
+                shared,
+                log_values,
+                escrow_values,
+                output,
+                bytes,
+                called,
+            );
             reply_answer(b, log, escrow, a, used)
         }
-        Call::Report => reply_answer(b, log, escrow, report(b), used),
     }
 }
