@@ -25,8 +25,9 @@ use Rattle.ideal.proofs.More.{row-added, value-added, counts-raised}
 use Rattle.ideal.proofs.HeapBytes.{replaceHeaps, own-bytes, written-bytes}
 use Rattle.state.specs.Answers.{settled}
 use Rattle.state.proofs.Settled.{answerOf, settledResult, part-settled, Moves, laid-step}
-use Rattle.escrow.specs.Narrow.{EscrowFits, callerOf, heapByte, escrowOf, fullBy, Room, EscrowResult, moreEscrow, protectUnless, protectRefusal, protectOn, foundOn, retrieveRefusal, retrieveAnswer, retrieveHeaps}
-use Rattle.escrow.proofs.Steps.{has-room}
+use Rattle.escrow.specs.Narrow.{EscrowFits, callerOf, heapByte, escrowOf, EscrowResult, moreEscrow, protectUnless, protectRefusal, protectOn, foundOn, retrieveRefusal, retrieveAnswer, retrieveHeaps}
+use Rattle.state.specs.Counts.{fullBy, Room}
+use Rattle.state.proofs.Rooms.{has-room}
 
 -- what protect and retrieve require of the escrow, of a sound one
 pub escrow-fits : {rows : List EscrowRow} {values : List ℕ} {used : Used} → Stands escrowTable rows values used

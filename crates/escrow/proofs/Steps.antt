@@ -1,4 +1,4 @@
--- What one turn of each search adds, what an escrow that is not full has, and a value copied into its place.
+-- What one turn of each search adds, and a value copied into its place.
 -- Assumes nothing.
 use Prim.Native.Nat.{ℕ, suc, _+_, _-_, _≤_, _<_}
 use mathlib.Core.Path.{_≡_, refl}
@@ -6,34 +6,21 @@ use mathlib.Core.Bool.{true, false}
 use mathlib.Core.List.{List, [], _∷_, _++_}
 use mathlib.Core.Option.{Option, some}
 use native.Mathlib.Omega.{arith}
-use native.Mathlib.Numerals.{add-one}
 use lib.ListN.{length, getD, take, drop, length-take}
-use lib.Seq.{drop-cons, getD-take, sets}
-use lib.Dec.{eqb}
-use borrow.Author.Tests.{eqb-false, ltb-false}
+use lib.Seq.{sets}
 use Rattle.record.specs.declared.Handle.{Handle}
 use Rattle.ideal.specs.declared.EscrowRow.{EscrowRow}
-use Rattle.ideal.specs.declared.Used.{Used}
 use Rattle.ideal.specs.State.{Escrowed, part, any}
 use Rattle.ideal.specs.Step.{hasHandle, handleOf, next, freeFrom}
 use Rattle.ideal.specs.Tables.{escrowTable, entryOf, entriesOf}
 use Rattle.ideal.specs.Fit.{RowsFit}
 use Rattle.ideal.proofs.Table.{part-length}
-use Rattle.ideal.proofs.Bools.{or-false-left, or-false-right}
 use Rattle.state.proofs.Loops.{part-replaced, copied-whole}
 use Rattle.escrow.specs.declared.fetch.Found.{Found}
 use Rattle.escrow.specs.declared.fetch.Found.the-variants.{At}
 use Rattle.escrow.specs.Search.{rowHas, entryFound, Within}
-use Rattle.escrow.specs.Narrow.{Room, fullBy}
 
 -- ---- rows
-
--- what is left of the first n, one on
-pub one-on : {A : Type 0} (l : List A) (n i : ℕ) (d : A) → i < n → n ≤ length l
-    → drop i (take n l) ≡ getD l i d ∷ drop (i + 1) (take n l)
-one-on l n i d p q =
-    let h : i < length (take n l) = simp length-take (omega arith) in
-    rw (add-one i, drop-cons (take n l) i d h, getD-take n l i d p)
 
 -- a handle is in an entry where it is in its row, whatever the values
 pub handle-entries : (values : List ℕ) (h : Handle) (rows : List EscrowRow)
@@ -79,17 +66,6 @@ module _ (k size d : ℕ) (l : List Escrowed) where
   pub free-last : 64 ≤ k → freeFrom (64 - k) size d l ≡ handleOf size d
   unfolding freeFrom
   free-last h = let s : 64 - k ≡ 0 = omega arith in rw s
-
--- ---- room
-
-pub has-room : (used : Used) (n : ℕ) → used .rows ≤ 64 → fullBy used n ≡ false → Room used n
-unfolding fullBy
-has-room used n h f =
-    let d = eqb-false (used .rows) 64 (or-false-left (eqb (used .rows) 64) _ f) in
-    record {
-      row = omega arith;
-      bytes = ltb-false 4096 (used .bytes + n) (or-false-right (eqb (used .rows) 64) _ f);
-    }
 
 -- ---- a value copied into its place
 

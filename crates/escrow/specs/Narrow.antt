@@ -1,12 +1,11 @@
 -- What protect and retrieve leave and answer, on the parts of the box that they are given.
-use Prim.Native.Nat.{ℕ, _+_, _*_, _^_, _≤_, _<_}
+use Prim.Native.Nat.{ℕ, _+_, _*_, _^_, _≤_}
 use mathlib.Core.Path.{_≡_}
-use mathlib.Core.Bool.{Bool, _||_}
 use mathlib.Core.List.{List}
 use mathlib.Core.Option.{Option}
 use lib.ListN.{length, getD, take, set}
 use lib.Seq.{sets}
-use lib.Dec.{eqb, ltb, leb}
+use lib.Dec.{eqb, leb}
 use Rattle.record.specs.declared.Handle.{Handle}
 use Rattle.record.specs.declared.Draw.{Draw}
 use Rattle.ideal.specs.declared.BoxRecord.{BoxRecord}
@@ -18,6 +17,7 @@ use Rattle.ideal.specs.Tables.{escrowTable, entriesOf}
 use Rattle.ideal.specs.Fit.{RowsFit}
 use Rattle.state.specs.declared.Answer.{Answer}
 use Rattle.state.specs.declared.EscrowAnswer.{EscrowAnswer}
+use Rattle.state.specs.Counts.{fullBy}
 use Rattle.state.specs.Answers.{refusedWith, acceptedWith, settled, answered}
 
 -- ---- what callers show
@@ -27,11 +27,6 @@ pub record EscrowFits (used : Used) (rows : List EscrowRow) (values : List ℕ) 
   pub few : used .rows ≤ 64
   pub size : length values ≡ 4096
   pub fit : RowsFit escrowTable rows (used .rows) (length values)
-
--- there is a row and n bytes that are not used
-pub record Room (used : Used) (n : ℕ) : Type 0 where
-  pub row : used .rows < 64
-  pub bytes : used .bytes + n ≤ 4096
 
 -- ---- parts of the box
 
@@ -46,10 +41,6 @@ heapByte b o = 256 * b .running + o
 -- the escrow that the used rows stand for
 abbrev pub escrowOf : BoxRecord → List EscrowRow → List ℕ → List Escrowed
 escrowOf b rows values = entriesOf escrowTable values (take (b .escrow .rows) rows)
-
--- the box's `full`, by the counts
-unfoldable pub fullBy : Used → ℕ → Bool
-fullBy used n = eqb (used .rows) 64 || ltb 4096 (used .bytes + n)
 
 -- ---- protect
 

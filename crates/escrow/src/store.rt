@@ -2,7 +2,8 @@
 ghost use mathlib.Core.Path.{_≡_};
 ghost use Prim.Native.Nat.{_≤_};
 ghost use lib.ListN.{length};
-ghost use Rattle.escrow.specs.Narrow.{EscrowFits, Room, resultOf, fullBy, moreEscrow, protectValue, protectOn};
+ghost use Rattle.state.specs.Counts.{Room};
+ghost use Rattle.escrow.specs.Narrow.{EscrowFits, resultOf, moreEscrow, protectValue, protectOn};
 use crate::free::free_handle;
 use ideal::BoxRecord;
 use ideal::EscrowRow;
@@ -12,19 +13,9 @@ use record::Handle;
 use state::EscrowAnswer;
 use state::EscrowTable;
 use state::accepted;
-use state::copy;
+use state::is_full;
+use state::put;
 use state::refused;
-
-// Whether all rows are used, or size bytes more are too many.
-fn is_full(used: Used, size: usize) -> bool
-    requires { ⌜ size ≤ 256 ⌝ }
-    ensures { λ r. ⌜ r ≡ fullBy used size ⌝ }
-{
-    if used.rows == 64 {
-        return true;
-    }
-    used.bytes as usize + size > 4096
-}
 
 // The escrow with one row and its value more.
 fn escrow_more(
@@ -40,22 +31,21 @@ fn escrow_more(
     ensures { λ r. ⌜ resultOf r (now (values .exit)) ≡ moreEscrow b (escrow .rows) (now (values .entry)) (record { source = source; recipient = recipient; handle = handle }) (now (value .entry)) ⌝ }
 {
     let used = b.escrow;
-    let start = used.bytes as usize;
-    let end = start + value.len();
-    copy(value, &mut values[start..end]);
+    let size = value.len() as u16;
+    put(value, values, used.bytes as usize);
     let row = EscrowRow {
         source,
         recipient,
         handle,
         first: used.bytes,
-        length: value.len() as u16,
+        length: size,
     };
     let i = used.rows as usize;
     let mut more = escrow;
     more.rows[i] = row;
     let raised = Used {
         rows: used.rows + 1,
-        bytes: end as u16,
+        bytes: used.bytes + size,
     };
     let mut next = b;
     next.escrow = raised;

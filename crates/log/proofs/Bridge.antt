@@ -28,8 +28,9 @@ use Rattle.ideal.proofs.More.{row-added, value-added, counts-raised}
 use Rattle.ideal.proofs.Memory.{flat-part}
 use Rattle.state.specs.Answers.{settled, answered}
 use Rattle.state.proofs.Settled.{answerOf}
-use Rattle.log.specs.Narrow.{LogFits, Room, LogResult, logOf, fullBy, moreLog, attested, attestOn, checkOn}
-use Rattle.log.proofs.Search.{has-room}
+use Rattle.log.specs.Narrow.{LogFits, LogResult, logOf, moreLog, attested, attestOn, checkOn}
+use Rattle.state.specs.Counts.{Room, fullBy}
+use Rattle.state.proofs.Rooms.{has-room}
 use Rattle.log.proofs.Pairs.{paired-logged}
 
 -- what attest and check require of the log, of a sound one

@@ -1,11 +1,11 @@
 -- What attest and check leave and answer, on the parts of the box that they are given.
-use Prim.Native.Nat.{ℕ, _+_, _*_, _≤_, _<_}
+use Prim.Native.Nat.{ℕ, _+_, _*_, _≤_}
 use mathlib.Core.Path.{_≡_}
-use mathlib.Core.Bool.{Bool, not, _&&_, _||_, cond}
+use mathlib.Core.Bool.{not, _&&_, cond}
 use mathlib.Core.List.{List}
 use lib.ListN.{length, getD, take, set}
 use lib.Seq.{sets}
-use lib.Dec.{eqb, ltb}
+use lib.Dec.{eqb}
 use Rattle.fnv.specs.declared.Tag.{Tag}
 use Rattle.fnv.specs.Fnv.{tagOf}
 use Rattle.ideal.specs.declared.BoxRecord.{BoxRecord}
@@ -17,6 +17,7 @@ use Rattle.ideal.specs.Tables.{logTable, entriesOf}
 use Rattle.ideal.specs.Fit.{RowsFit}
 use Rattle.state.specs.declared.Answer.{Answer}
 use Rattle.state.specs.declared.LogAnswer.{LogAnswer}
+use Rattle.state.specs.Counts.{fullBy}
 use Rattle.state.specs.Answers.{refusedWith, acceptedWith, settled, answered}
 
 -- ---- what callers show
@@ -26,11 +27,6 @@ pub record LogFits (used : Used) (rows : List LogRow) (values : List ℕ) : Type
   pub few : used .rows ≤ 64
   pub size : length values ≡ 4096
   pub fit : RowsFit logTable rows (used .rows) (length values)
-
--- there is a row and n bytes that are not used
-pub record Room (used : Used) (n : ℕ) : Type 0 where
-  pub row : used .rows < 64
-  pub bytes : used .bytes + n ≤ 4096
 
 -- ---- what is left and answered
 
@@ -47,10 +43,6 @@ resultOf r values = record { held = r .held; rows = r .log .rows; values = value
 -- the log that the used rows stand for
 abbrev pub logOf : BoxRecord → List LogRow → List ℕ → List Logged
 logOf b rows values = entriesOf logTable values (take (b .log .rows) rows)
-
--- the box's `full`, by the counts
-unfoldable pub fullBy : Used → ℕ → Bool
-fullBy used n = eqb (used .rows) 64 || ltb 4096 (used .bytes + n)
 
 -- ---- attest
 

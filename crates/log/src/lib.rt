@@ -5,7 +5,8 @@ ghost use lib.ListN.{length, take};
 ghost use Rattle.ideal.specs.Step.{isLogged, logged};
 ghost use Rattle.ideal.specs.Tables.{logTable, entryOf, entriesOf};
 ghost use Rattle.ideal.specs.Fit.{RowsFit};
-ghost use Rattle.log.specs.Narrow.{LogFits, Room, resultOf, fullBy, moreLog, attestValue, attestOn, checkOn};
+ghost use Rattle.state.specs.Counts.{Room};
+ghost use Rattle.log.specs.Narrow.{LogFits, resultOf, moreLog, attestValue, attestOn, checkOn};
 use fnv::Tag;
 use fnv::tag_of;
 use ideal::BoxRecord;
@@ -15,6 +16,7 @@ use state::Answer;
 use state::LogAnswer;
 use state::LogTable;
 use state::accepted;
+use state::is_full;
 use state::put;
 use state::refused;
 use state::same;
@@ -58,17 +60,6 @@ pub fn in_log(
         i += 1;
     }
     false
-}
-
-// Whether all rows are used, or size bytes more are too many.
-fn is_full(used: Used, size: usize) -> bool
-    requires { ⌜ size ≤ 256 ⌝ }
-    ensures { λ r. ⌜ r ≡ fullBy used size ⌝ }
-{
-    if used.rows == 64 {
-        return true;
-    }
-    used.bytes as usize + size > 4096
 }
 
 // The log with one row and its value more.

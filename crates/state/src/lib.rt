@@ -1,6 +1,7 @@
-// What goes in and comes back by value, and the loops over lent bytes.
+// What goes in and comes back by value, the loops over lent bytes, and whether a table has room.
 mod bytes;
 mod fresh;
+mod full;
 
 pub use bytes::all_zero;
 pub use bytes::clear;
@@ -10,6 +11,7 @@ pub use bytes::same;
 pub use fresh::fresh_escrow;
 pub use fresh::fresh_log;
 pub use fresh::fresh_record;
+pub use full::is_full;
 ghost use mathlib.Core.Path.{_≡_};
 ghost use Rattle.state.specs.Answers.{refusedWith, acceptedWith};
 use ideal::BoxRecord;

@@ -3,7 +3,7 @@ use borrow.Author.Needs.{needs}
 use Rattle.ideal.specs.Step.{first}
 use Rattle.state.specs.Answers.{settled}
 use Rattle.log.specs.Narrow.{attested, attestValue}
-use Rattle.log.proofs.Search.{has-room}
+use Rattle.state.proofs.Rooms.{has-room}
 use Rattle.log.proofs.attest_value.Statement.{statement}
 use Rattle.log.proofs.attest_value.Tie as tie
 

@@ -8,7 +8,7 @@ use borrow.Author.Tests.{eq-eqb, ne-eqb}
 use Rattle.ideal.specs.State.{any}
 use Rattle.ideal.specs.Tables.{escrowTable}
 use Rattle.escrow.specs.Search.{rowHas}
-use Rattle.escrow.proofs.Steps.{one-on}
+use Rattle.state.proofs.Loops.{one-on}
 use Rattle.escrow.proofs.free.handle_in.Statement.{statement}
 use Rattle.escrow.proofs.free.handle_in.Tie as tie
 

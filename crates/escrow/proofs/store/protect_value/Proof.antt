@@ -4,7 +4,7 @@ use borrow.Author.Tests.{le-leb, lt-leb}
 use Rattle.ideal.specs.Step.{first}
 use Rattle.state.specs.Answers.{settled}
 use Rattle.escrow.specs.Narrow.{protectUnless, protectValue}
-use Rattle.escrow.proofs.Steps.{has-room}
+use Rattle.state.proofs.Rooms.{has-room}
 use Rattle.escrow.proofs.store.protect_value.Statement.{statement}
 use Rattle.escrow.proofs.store.protect_value.Tie as tie
 

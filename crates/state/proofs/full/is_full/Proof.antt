@@ -1,8 +1,8 @@
-use borrow.Author.Needs.{needs}
 use borrow.Author.Tests.{eq-eqb, ne-eqb}
-use Rattle.escrow.specs.Narrow.{fullBy}
-use Rattle.escrow.proofs.store.is_full.Statement.{statement}
-use Rattle.escrow.proofs.store.is_full.Tie as tie
+use borrow.Author.Needs.{needs}
+use Rattle.state.specs.Counts.{fullBy}
+use Rattle.state.proofs.full.is_full.Statement.{statement}
+use Rattle.state.proofs.full.is_full.Tie as tie
 
 returns : tie.Need-returns
 unfolding fullBy
