@@ -1,24 +1,27 @@
--- What one turn of each search adds, and a value copied into its place.
--- Assumes nothing.
-use Prim.Native.Nat.{ℕ, suc, _+_, _-_, _≤_, _<_}
+-- What one turn of each search adds, and what retrieve does with a row that was found. Assumes nothing.
+use Prim.Native.Nat.{ℕ, suc, _+_, _*_, _-_, _≤_, _<_}
 use mathlib.Core.Path.{_≡_, refl}
 use mathlib.Core.Bool.{true, false}
-use mathlib.Core.List.{List, [], _∷_, _++_}
+use mathlib.Core.List.{List, [], _∷_}
 use mathlib.Core.Option.{Option, some}
 use native.Mathlib.Omega.{arith}
-use lib.ListN.{length, getD, take, drop, length-take}
+use lib.ListN.{length, getD}
 use lib.Seq.{sets}
+use lib.Dec.{eqb, ltb}
 use Rattle.record.specs.declared.Handle.{Handle}
+use Rattle.ideal.specs.declared.BoxRecord.{BoxRecord}
 use Rattle.ideal.specs.declared.EscrowRow.{EscrowRow}
 use Rattle.ideal.specs.State.{Escrowed, part, any}
-use Rattle.ideal.specs.Step.{hasHandle, handleOf, next, freeFrom}
+use Rattle.ideal.specs.Step.{hasHandle, handleOf, next, freeFrom, absent, valueIn, first, beyond}
 use Rattle.ideal.specs.Tables.{escrowTable, entryOf, entriesOf}
 use Rattle.ideal.specs.Fit.{RowsFit}
 use Rattle.ideal.proofs.Table.{part-length}
-use Rattle.state.proofs.Loops.{part-replaced, copied-whole}
+use Rattle.state.specs.declared.Answer.{Answer}
+use Rattle.state.specs.Answers.{refusedWith, acceptedWith, settled, answered}
 use Rattle.escrow.specs.declared.fetch.Found.{Found}
 use Rattle.escrow.specs.declared.fetch.Found.the-variants.{At}
 use Rattle.escrow.specs.Search.{rowHas, entryFound, Within}
+use Rattle.escrow.specs.Narrow.{foundOn, retrieveRefusal, retrieveAnswer, retrieveHeaps}
 
 -- ---- rows
 
@@ -67,11 +70,22 @@ module _ (k size d : ℕ) (l : List Escrowed) where
   unfolding freeFrom
   free-last h = let s : 64 - k ≡ 0 = omega arith in rw s
 
--- ---- a value copied into its place
+-- ---- retrieve, of a row that was found
 
--- w is what a copy of v leaves of the n bytes from a on
-pub stored : (l v w : List ℕ) (a n : ℕ) → length v ≡ n → a + n ≤ length l → w ≡ v ++ drop (length v) (take n (drop a l))
-    → take a l ++ (w ++ drop n (drop a l)) ≡ sets l a v
-stored l v w a n e h c =
-    let d : length (take n (drop a l)) ≤ length v = simp length-take (omega arith) in
-    rw (c, copied-whole v (take n (drop a l)) d) (part-replaced l v a n e h)
+module _ (b : BoxRecord) (rows : List EscrowRow) (values : List ℕ) (source offset : ℕ) (h : Handle) {i n : ℕ}
+    (busy : eqb (b .running) 16 ≡ false)
+    (known : eqb source 0 ≡ false)
+    (w : RowFound i n values rows (foundOn b rows values source h))
+    {a : Answer}
+    (heaps : List ℕ)
+  where
+    pub retrieve-beyond : ltb 256 (offset + rowAt rows i .length) ≡ true → a ≡ refusedWith 11
+        → (a ≡ retrieveAnswer b rows values source offset h) × (heaps ≡ retrieveHeaps b rows heaps values source offset h)
+    unfolding retrieveAnswer retrieveHeaps retrieveRefusal first settled answered absent valueIn beyond
+    retrieve-beyond e f = (rw (busy, known, ← w .is, w .size, e) f, rw (busy, known, ← w .is, w .size, e))
+
+    pub retrieve-done : {left : List ℕ} → ltb 256 (offset + rowAt rows i .length) ≡ false → a ≡ acceptedWith (rowAt rows i .length)
+        → left ≡ sets heaps (256 * b .running + offset) (part values (rowAt rows i .first) (rowAt rows i .length))
+        → (a ≡ retrieveAnswer b rows values source offset h) × (left ≡ retrieveHeaps b rows heaps values source offset h)
+    unfolding retrieveAnswer retrieveHeaps retrieveRefusal first settled answered absent valueIn beyond
+    retrieve-done e f g = (rw (busy, known, ← w .is, w .size, e) f, rw (busy, known, ← w .is, w .size, e) g)

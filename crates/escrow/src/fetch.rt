@@ -14,7 +14,7 @@ use record::Handle;
 use state::Answer;
 use state::EscrowTable;
 use state::accepted;
-use state::copy;
+use state::put;
 use state::refused;
 
 // The search's answer: the index of a row, or that there is none.
@@ -88,7 +88,6 @@ pub fn retrieve(
     let from = entry.first as usize;
     let until = from + size;
     let start = 256 * place + offset as usize;
-    let end = start + size;
-    copy(&values[from..until], &mut heaps[start..end]);
+    put(&values[from..until], heaps, start);
     accepted(size as u64)
 }

@@ -1,18 +1,15 @@
-use Prim.Native.Nat.{_+_, _*_, _-_, _≤_}
 use mathlib.Core.Path.{_≡_}
 use mathlib.Core.Bool.{false}
 use native.Mathlib.Nat.{add-sub-cancel-left}
 use native.Mathlib.Omega.{arith}
-use lib.ListN.{length}
 use lib.Dec.{eqb}
 use borrow.Author.Needs.{needs}
 use borrow.Author.Tests.{eq-eqb, ne-eqb, lt-ltb, le-ltb}
-use Rattle.ideal.specs.State.{part}
-use Rattle.ideal.specs.Step.{absent, valueIn, first, beyond}
+use Rattle.ideal.specs.Step.{absent, first}
 use Rattle.state.specs.Answers.{settled, answered}
 use Rattle.escrow.specs.Search.{entryFound}
 use Rattle.escrow.specs.Narrow.{foundOn, retrieveRefusal, retrieveAnswer, retrieveHeaps}
-use Rattle.escrow.proofs.Steps.{rowAt, RowFound, row-found, stored}
+use Rattle.escrow.proofs.Steps.{RowFound, row-found, retrieve-beyond, retrieve-done}
 use Rattle.escrow.proofs.fetch.retrieve.Statement.{statement}
 use Rattle.escrow.proofs.fetch.retrieve.Tie as tie
 
@@ -102,12 +99,9 @@ refused-requires-4 : tie.Need-refused-requires-4
 refused-requires-4 c κs = search needs
 
 returns-4 : tie.Need-returns-4
-unfolding retrieveAnswer retrieveHeaps retrieveRefusal first settled answered absent valueIn beyond
 returns-4 c =
-    let w = found (c .before .before .before .before) in
     let p = past (c .before .before .before .before) in
-    let h = lt-ltb _ _ (c .before .if3 .taken) in
-    (rw (p .0, p .1, ← w .is, w .size, h) (c .refused4 .ensures), rw (p .0, p .1, ← w .is, w .size, h))
+    retrieve-beyond _ _ _ _ _ _ (p .0) (p .1) (found (c .before .before .before .before)) _ (lt-ltb _ _ (c .before .if3 .taken)) (c .refused4 .ensures)
 
 cast-from : tie.Need-cast-from
 cast-from c = search needs
@@ -121,29 +115,17 @@ mul-start c = search needs
 add-start : tie.Need-add-start
 add-start c = search needs
 
-add-end : tie.Need-add-end
-add-end c = search needs
+sub-put : tie.Need-sub-put
+sub-put c = search needs
 
-sub-copy : tie.Need-sub-copy
-sub-copy c = search needs
+part-put-start : tie.Need-part-put-start
+part-put-start c = search needs
 
-part-copy-start : tie.Need-part-copy-start
-part-copy-start c = search needs
+part-put-end : tie.Need-part-put-end
+part-put-end c = omega (arith, found (c .before .before .before .before) .fits)
 
-part-copy-end : tie.Need-part-copy-end
-part-copy-end c = omega (arith, found (c .before .before .before .before) .fits)
-
-sub-copy-2 : tie.Need-sub-copy-2
-sub-copy-2 c = search needs
-
-part-copy-start-2 : tie.Need-part-copy-start-2
-part-copy-start-2 c = search needs
-
-part-copy-end-2 : tie.Need-part-copy-end-2
-part-copy-end-2 c = search needs
-
-copy-requires : tie.Need-copy-requires
-copy-requires c κs = search needs
+put-requires : tie.Need-put-requires
+put-requires c κs = search needs
 
 accepted-requires : tie.Need-accepted-requires
 accepted-requires c κs = search needs
@@ -152,24 +134,10 @@ same-length : tie.Need-same-length
 same-length c = search needs
 
 returns-5 : tie.Need-returns-5
-unfolding retrieveAnswer retrieveHeaps retrieveRefusal first settled answered absent valueIn beyond
 returns-5 c =
-    let k = c .before .before .before .before .before .before .before .before .before .before in
-    let x = k .before .before .before .before .before .before .before .before .before .before .before .before .args in
-    let w = found k in
-    let p = past k in
-    let within = c .before .before .before .before .before .before .before .if3 .left in
-    let h = le-ltb _ _ within in
-    let r = rowAt (x .escrow .rows) (k .before .i .given .0 .0) in
-    let v = part (x .values .now) (r .first) (r .length) in
-    let a = 256 * x .t1 .running + x .offset in
-    let n = a + r .length - a in
-    let pre = k .before .before .before .before .before .before .before .before .before .before .before .before .pre in
-    let busy = k .before .before .before .before .before .before .before .before .before .if1 .left in
-    let fits : a + n ≤ length (x .heaps .now) = omega (arith, busy, within, pre .0, pre .1) in
-    let copied = rw (add-sub-cancel-left (r .first) (r .length)) at (c .before .before .before .copy .ensures) in
-    let s = stored (x .heaps .now) v _ a n (omega arith) fits copied in
-    (rw (p .0, p .1, ← w .is, w .size, h) (c .accepted .ensures), rw (p .0, p .1, ← w .is, w .size, h) s)
+    let p = past (c .before .before .before .before .before .before .before .before .before .before) in
+    retrieve-done _ _ _ _ _ _ (p .0) (p .1) (found (c .before .before .before .before .before .before .before .before .before .before)) _ (le-ltb _ _ (c .before .before .before .before .before .before .before .if3 .left)) (c .accepted .ensures)
+    (rw (add-sub-cancel-left _ _) at (c .before .before .before .put .ensures))
 
 pub retrieve-spec : {M : Type 1} → statement M
 retrieve-spec =
@@ -198,14 +166,10 @@ retrieve-spec =
     add-until
     mul-start
     add-start
-    add-end
-    sub-copy
-    part-copy-start
-    part-copy-end
-    sub-copy-2
-    part-copy-start-2
-    part-copy-end-2
-    copy-requires
+    sub-put
+    part-put-start
+    part-put-end
+    put-requires
     accepted-requires
     same-length
     returns-5)
