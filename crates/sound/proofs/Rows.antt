@@ -19,7 +19,7 @@ use Rattle.ideal.specs.Soundness.{chained, short}
 use Rattle.ideal.proofs.Bools.{and-left, and-right, and-true, and-nil, and-assoc}
 use Rattle.ideal.proofs.Facts.{and-swap}
 use Rattle.state.proofs.Loops.{joined}
-use Rattle.escrow.proofs.Steps.{one-on}
+use Rattle.state.proofs.Loops.{one-on}
 use Rattle.sound.specs.Tests.{rowSound, rowsSound, logBits, escrowBits}
 
 -- one element on
