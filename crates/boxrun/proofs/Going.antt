@@ -14,7 +14,7 @@ use Rattle.ideal.specs.Layouts.{Sound}
 use Rattle.ideal.proofs.Laid.{fresh-box}
 use Rattle.state.specs.declared.LogTable.{LogTable}
 use Rattle.state.specs.declared.EscrowTable.{EscrowTable}
-use Rattle.sound.specs.Parts.{tablesOf}
+use Rattle.soundness.specs.Parts.{tablesOf}
 use Rattle.sheet.specs.Sheet.{bytesOf, header, tooLong, sheet}
 use Rattle.turns.specs.Next.{TurnMade}
 use Rattle.sheet.specs.Turns.{Turn, turn, Loop, nothing-left, stopped, went-on, joined}

@@ -23,7 +23,7 @@ use Rattle.log.specs.Narrow as log-part
 use Rattle.log.specs.Narrow.{attestOn, checkOn}
 use Rattle.escrow.specs.Narrow as escrow-part
 use Rattle.escrow.specs.Narrow.{protectOn, retrieveAnswer, retrieveHeaps}
-use Rattle.sound.specs.Parts.{tablesOf}
+use Rattle.soundness.specs.Parts.{tablesOf}
 use Rattle.calls.specs.declared.Reply.{Reply}
 use Rattle.calls.specs.Entry.{resultOf, carriedOn}
 use Rattle.calls.specs.Replies.{replyAnswer, replyBox, replyLog, replyEscrow}

@@ -18,7 +18,7 @@ use Rattle.ideal.specs.Box.{laid, unsound, callOn, outputAfter}
 use Rattle.ideal.specs.Layouts.{Sound}
 use Rattle.ideal.proofs.Bools.{and-left, and-right}
 use Rattle.ideal.proofs.Laid.{tables-state}
-use Rattle.sound.specs.Parts.{Lent}
+use Rattle.soundness.specs.Parts.{Lent}
 use Rattle.calls.specs.Entry.{EntryResult, resultOn, entryOn, readyOn, soundOn, carriedOn}
 
 -- a refusal that comes before any call

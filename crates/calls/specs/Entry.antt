@@ -8,7 +8,7 @@ use Rattle.ideal.specs.Step.{step, stepOn}
 use Rattle.ideal.specs.Tables.{Tables, stateOf}
 use Rattle.ideal.specs.Soundness.{sizesRight, sound}
 use Rattle.ideal.specs.Box.{Result, laid, callOn, outputAfter}
-use Rattle.sound.specs.Parts.{tablesOf}
+use Rattle.soundness.specs.Parts.{tablesOf}
 use Rattle.calls.specs.declared.Reply.{Reply}
 
 pub record EntryResult : Type 0 where

@@ -4,7 +4,7 @@ ghost use Prim.Native.Nat.{ℕ};
 ghost use lib.ListN.{length};
 ghost use Rattle.record.specs.Meaning.{bytesIn, callIn, PartWithin, CallWithin};
 ghost use Rattle.ideal.specs.Layouts.{Sound};
-ghost use Rattle.sound.specs.Parts.{tablesOf};
+ghost use Rattle.soundness.specs.Parts.{tablesOf};
 ghost use Rattle.calls.specs.Entry.{resultOf, carriedOn};
 ghost use Rattle.calls.specs.Replies.{replyAnswer};
 ghost use Rattle.calls.specs.Alone.{Alone};

@@ -5,7 +5,7 @@ mod dispatch;
 ghost use mathlib.Core.Path.{_≡_};
 ghost use lib.ListN.{length};
 ghost use Rattle.ideal.specs.Layouts.{Sound};
-ghost use Rattle.sound.specs.Parts.{tablesOf};
+ghost use Rattle.soundness.specs.Parts.{tablesOf};
 ghost use Rattle.calls.specs.Entry.{resultOf, readyOn, soundOn, entryOn};
 use answers::reply_refusal;
 use dispatch::carry_out;

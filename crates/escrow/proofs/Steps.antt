@@ -1,36 +1,26 @@
--- What one turn of each search adds, and what retrieve does with a row that was found. Assumes nothing.
-use Prim.Native.Nat.{ℕ, suc, _+_, _*_, _-_, _≤_, _<_}
-use mathlib.Core.Path.{_≡_, refl}
+-- What retrieve does with a row that was found. Assumes nothing.
+use Prim.Native.Nat.{ℕ, _+_, _*_, _≤_, _<_}
+use mathlib.Core.Path.{_≡_}
 use mathlib.Core.Bool.{true, false}
-use mathlib.Core.List.{List, [], _∷_}
+use mathlib.Core.List.{List}
 use mathlib.Core.Option.{Option, some}
-use native.Mathlib.Omega.{arith}
 use lib.ListN.{length, getD}
 use lib.Seq.{sets}
 use lib.Dec.{eqb, ltb}
 use Rattle.record.specs.declared.Handle.{Handle}
 use Rattle.ideal.specs.declared.BoxRecord.{BoxRecord}
 use Rattle.ideal.specs.declared.EscrowRow.{EscrowRow}
-use Rattle.ideal.specs.State.{Escrowed, part, any}
-use Rattle.ideal.specs.Step.{hasHandle, handleOf, next, freeFrom, absent, valueIn, first, beyond}
-use Rattle.ideal.specs.Tables.{escrowTable, entryOf, entriesOf}
+use Rattle.ideal.specs.State.{Escrowed, part}
+use Rattle.ideal.specs.Step.{absent, valueIn, first, beyond}
+use Rattle.ideal.specs.Tables.{escrowTable, entryOf}
 use Rattle.ideal.specs.Fit.{RowsFit}
 use Rattle.ideal.proofs.Table.{part-length}
 use Rattle.state.specs.declared.Answer.{Answer}
 use Rattle.state.specs.Answers.{refusedWith, acceptedWith, settled, answered}
 use Rattle.escrow.specs.declared.fetch.Found.{Found}
 use Rattle.escrow.specs.declared.fetch.Found.the-variants.{At}
-use Rattle.escrow.specs.Search.{rowHas, entryFound, Within}
+use Rattle.escrow.specs.Search.{entryFound, Within}
 use Rattle.escrow.specs.Narrow.{foundOn, retrieveRefusal, retrieveAnswer, retrieveHeaps}
-
--- ---- rows
-
--- a handle is in an entry where it is in its row, whatever the values
-pub handle-entries : (values : List ℕ) (h : Handle) (rows : List EscrowRow)
-    → any (hasHandle h) (entriesOf escrowTable values rows) ≡ any (rowHas h) rows
-unfolding any entriesOf hasHandle rowHas
-handle-entries values h [] = refl
-handle-entries values h (r ∷ rows) = rw (handle-entries values h rows)
 
 abbrev pub rowAt : List EscrowRow → ℕ → EscrowRow
 rowAt rows i = getD rows i (escrowTable .blank)
@@ -50,25 +40,6 @@ row-found {i} {n} {values} {rows} a w e fit =
     let r = rowAt rows i in
     let q : r .first + r .length ≤ length values = fit i p in
     record { within = p; fits = q; is = rw a at e; size = part-length values (r .first) (r .length) q }
-
--- ---- candidates: 64 are passed over at most, k of them already
-
-module _ (k size d : ℕ) (l : List Escrowed) where
-  pub free-here : k < 64 → any (hasHandle (handleOf size d)) l ≡ false → freeFrom (64 - k) size d l ≡ handleOf size d
-  unfolding freeFrom
-  free-here h e = let s : 64 - k ≡ suc (63 - k) = omega arith in rw (s, e)
-
-  pub free-later : k < 64 → any (hasHandle (handleOf size d)) l ≡ true
-      → freeFrom (64 - k) size d l ≡ freeFrom (64 - (k + 1)) size (next d) l
-  unfolding freeFrom
-  free-later h e =
-      let s : 64 - k ≡ suc (63 - k) = omega arith in
-      let r : 64 - (k + 1) ≡ 63 - k = omega arith in
-      rw (r, s, e)
-
-  pub free-last : 64 ≤ k → freeFrom (64 - k) size d l ≡ handleOf size d
-  unfolding freeFrom
-  free-last h = let s : 64 - k ≡ 0 = omega arith in rw s
 
 -- ---- retrieve, of a row that was found
 

@@ -1,20 +1,13 @@
--- What the searches over escrow rows answer. None of them looks at the value bytes.
+-- What the search for an escrow row answers.
 use Prim.Native.Nat.{ℕ, _<_}
-use mathlib.Core.Bool.{Bool}
 use mathlib.Core.List.{List}
 use mathlib.Core.Option.{Option, none, some}
 use lib.ListN.{getD}
-use lib.Dec.{eqb}
-use Rattle.record.specs.declared.Handle.{Handle}
 use Rattle.ideal.specs.declared.EscrowRow.{EscrowRow}
 use Rattle.ideal.specs.State.{Escrowed}
 use Rattle.ideal.specs.Tables.{escrowTable, entryOf}
 use Rattle.escrow.specs.declared.fetch.Found.{Found}
 use Rattle.escrow.specs.declared.fetch.Found.the-variants.{At, Nothing}
-
--- a row has the handle
-unfoldable pub rowHas : Handle → EscrowRow → Bool
-rowHas h r = eqb (r .handle .0) (h .0)
 
 -- what each case of the search's answer stands for: what is escrowed in that row, or nothing (a retrieve's refusal 10)
 unfoldable pub entryFound : List ℕ → List EscrowRow → Found → Option Escrowed

@@ -4,7 +4,7 @@ ghost use Prim.Native.Nat.{_≤_};
 ghost use lib.ListN.{length};
 ghost use Rattle.state.specs.Counts.{Room};
 ghost use Rattle.escrow.specs.Narrow.{EscrowFits, resultOf, moreEscrow, protectValue, protectOn};
-use crate::free::free_handle;
+use handles::free_handle;
 use ideal::BoxRecord;
 use ideal::EscrowRow;
 use ideal::Used;

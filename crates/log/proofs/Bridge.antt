@@ -31,7 +31,7 @@ use Rattle.state.proofs.Settled.{answerOf}
 use Rattle.log.specs.Narrow.{LogFits, LogResult, logOf, moreLog, attested, attestOn, checkOn}
 use Rattle.state.specs.Counts.{Room, fullBy}
 use Rattle.state.proofs.Rooms.{has-room}
-use Rattle.log.proofs.Pairs.{paired-logged}
+use Rattle.pairs.proofs.Pairs.{paired-logged}
 
 -- what attest and check require of the log, of a sound one
 pub log-fits : {rows : List LogRow} {values : List ℕ} {used : Used} → Stands logTable rows values used → LogFits used rows values

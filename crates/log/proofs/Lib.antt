@@ -1,3 +1,1 @@
-pub mod Search
-pub mod Pairs
 pub mod Bridge

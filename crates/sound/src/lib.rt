@@ -7,16 +7,11 @@ ghost use Rattle.ideal.specs.declared.BoxRecord.{BoxRecord};
 ghost use Rattle.state.specs.declared.LogTable.{LogTable};
 ghost use Rattle.state.specs.declared.EscrowTable.{EscrowTable};
 ghost use Rattle.ideal.specs.Soundness.{sizesRight, sound};
-ghost use Rattle.sound.specs.Parts.{tablesOf, Counted, Lent};
-
-mod escrow_rows;
-mod log_rows;
-mod places;
-
-use escrow_rows::escrow_sound;
+ghost use Rattle.soundness.specs.Parts.{tablesOf, Counted, Lent};
 use ideal::BoxRecord;
-use log_rows::log_sound;
-use places::places_sound;
+use soundescrow::escrow_sound;
+use soundlog::log_sound;
+use soundplaces::places_sound;
 use state::EscrowTable;
 use state::LogTable;
 

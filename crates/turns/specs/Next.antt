@@ -3,7 +3,7 @@ use Prim.Native.Nat.{ℕ}
 use mathlib.Core.Path.{_≡_}
 use mathlib.Core.List.{List}
 use lib.ListN.{take}
-use Rattle.sound.specs.Parts.{tablesOf}
+use Rattle.soundness.specs.Parts.{tablesOf}
 use Rattle.turns.specs.declared.NextLine.{NextLine}
 use Rattle.sheet.specs.Stored.{AtFront}
 use Rattle.sheet.specs.Turns.{Turn}

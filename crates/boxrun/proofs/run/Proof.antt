@@ -4,7 +4,7 @@ use Prim.Native.Nat.{_≤_, _-_}
 use mathlib.Core.Path.{_≡_, sym}
 use lib.Seq.{length-take-le}
 use lib.ListN.{length}
-use Rattle.sound.specs.Parts.{tablesOf}
+use Rattle.soundness.specs.Parts.{tablesOf}
 use Rattle.boxrun.proofs.Going.{Going, begins, done, short, room, stopped-here, further, went-further}
 use Rattle.boxrun.proofs.run.Statement.{statement}
 use Rattle.boxrun.proofs.run.Tie as tie

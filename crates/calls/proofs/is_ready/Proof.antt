@@ -1,7 +1,7 @@
 use mathlib.Core.Path.{sym, _∙_}
 use lib.ListN.{length-map}
 use borrow.Author.Tests.{not-true, not-false}
-use Rattle.sound.specs.Parts.{Counted}
+use Rattle.soundness.specs.Parts.{Counted}
 use Rattle.calls.specs.Entry.{readyOn}
 use Rattle.calls.proofs.Whole.{sizes-lent}
 use borrow.Author.Needs.{needs}

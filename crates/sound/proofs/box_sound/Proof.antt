@@ -6,9 +6,9 @@ use lib.ListN.{length-map}
 use borrow.Author.Tests.{not-true, not-false}
 use borrow.Author.Needs.{needs}
 use Rattle.ideal.specs.Soundness.{sound}
-use Rattle.sound.specs.Tests.{placesSound, logSound, escrowSound}
-use Rattle.sound.specs.Parts.{tablesOf}
-use Rattle.sound.proofs.Whole.{sound-parts}
+use Rattle.soundness.specs.Tests.{placesSound, logSound, escrowSound}
+use Rattle.soundness.specs.Parts.{tablesOf}
+use Rattle.soundness.proofs.Whole.{sound-parts}
 use Rattle.sound.proofs.box_sound.Statement.{statement}
 use Rattle.sound.proofs.box_sound.Tie as tie
 

@@ -1,0 +1,120 @@
+// The escrow: its rows and value bytes.
+ghost use mathlib.Core.Path.{_≡_};
+ghost use mathlib.Core.List.{List, []};
+ghost use Prim.Native.Nat.{ℕ, _/_, _^_, _≤_};
+ghost use lib.ListN.{length, take, drop};
+ghost use Rattle.ideal.specs.State.{every};
+ghost use Rattle.ideal.specs.Tables.{escrowTable, entriesOf};
+ghost use Rattle.ideal.specs.Soundness.{sameHandle};
+ghost use Rattle.soundness.specs.Tests.{rowSound, rowsSound, differBefore, escrowRowRight, escrowSound, escrowBits};
+use handles::handle_in;
+use ideal::EscrowRow;
+use ideal::Used;
+use record::Handle;
+use state::all_zero;
+
+// The length that a handle carries.
+fn length_of(handle: Handle) -> u64
+    ensures { λ r. ⌜ r ≡ handle .0 / 2 ^ 48 ⌝ }
+{
+    handle.0 / 281474976710656
+}
+
+// Whether a row begins at `at` and is right by itself.
+fn row_sound(row: EscrowRow, at: usize) -> bool
+    ensures { λ r. ⌜ r ≡ rowSound escrowTable escrowRowRight at row ⌝ }
+{
+    if row.first as usize != at {
+        return false;
+    }
+    if row.length > 256 {
+        return false;
+    }
+    if row.source == 0 {
+        return false;
+    }
+    if row.recipient == 0 {
+        return false;
+    }
+    length_of(row.handle) == row.length as u64
+}
+
+// Whether the first n rows are right and follow each other, from 0 to `end`.
+fn rows_sound(rows: [EscrowRow; 64], n: usize, end: usize) -> bool
+    requires { ⌜ n ≤ 64 ⌝ }
+    ensures { λ r. ⌜ r ≡ rowsSound escrowTable escrowRowRight end 0 (take n rows) ⌝ }
+{
+    let mut at: usize = 0;
+    let mut i: usize = 0;
+    while i < n {
+        let row = rows[i];
+        if !row_sound(row, at) {
+            return false;
+        }
+        at += row.length as usize;
+        i += 1;
+    }
+    at == end
+}
+
+// Whether none of the first n rows has the handle of one before it, whatever the values.
+fn handles_differ(rows: [EscrowRow; 64], n: usize) -> bool
+    requires { ⌜ n ≤ 64 ⌝ }
+    ensures { λ r. ⌜ ((values : List ℕ) → r ≡ differBefore sameHandle [] (entriesOf escrowTable values (take n rows))) ⌝ }
+{
+    let mut i: usize = 0;
+    while i < n {
+        let row = rows[i];
+        if handle_in(rows, i, row.handle) {
+            return false;
+        }
+        i += 1;
+    }
+    true
+}
+
+// All bits of a row, joined.
+fn row_bits(row: EscrowRow) -> u64
+    ensures { λ r. ⌜ r ≡ escrowBits row ⌝ }
+{
+    (row.source | row.recipient | row.handle.0) | (row.first as u64 | row.length as u64)
+}
+
+// Whether the rows from n on are blank: their bits are joined, with no way out of the loop.
+fn rows_blank(rows: [EscrowRow; 64], n: usize) -> bool
+    requires { ⌜ n ≤ 64 ⌝ }
+    ensures { λ r. ⌜ r ≡ every (escrowTable .isBlank) (drop n rows) ⌝ }
+{
+    let mut all: u64 = 0;
+    let mut i = n;
+    while i < 64 {
+        let row = rows[i];
+        all = all | row_bits(row);
+        i += 1;
+    }
+    all == 0
+}
+
+pub fn escrow_sound(rows: [EscrowRow; 64], values: &[u8], used: Used) -> bool
+    requires { ⌜ length (now values) ≡ 4096 ⌝ }
+    ensures { λ r. ⌜ r ≡ escrowSound rows (now (values .entry)) used ⌝ }
+{
+    if used.rows > 64 {
+        return false;
+    }
+    if used.bytes > 4096 {
+        return false;
+    }
+    let n = used.rows as usize;
+    let end = used.bytes as usize;
+    if !rows_sound(rows, n, end) {
+        return false;
+    }
+    if !handles_differ(rows, n) {
+        return false;
+    }
+    if !rows_blank(rows, n) {
+        return false;
+    }
+    all_zero(&values[end..])
+}

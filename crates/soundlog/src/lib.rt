@@ -1,0 +1,119 @@
+// The log: its rows and value bytes.
+ghost use mathlib.Core.Path.{_≡_};
+ghost use mathlib.Core.List.{[]};
+ghost use Prim.Native.Nat.{_≤_};
+ghost use lib.ListN.{length, take, drop};
+ghost use Rattle.ideal.specs.State.{every};
+ghost use Rattle.ideal.specs.Tables.{logTable, entriesOf};
+ghost use Rattle.ideal.specs.Fit.{RowsFit};
+ghost use Rattle.soundness.specs.Tests.{rowSound, rowsSound, differBefore, logRowRight, sameLogged, logSound, logBits};
+use fnv::tag_of;
+use ideal::LogRow;
+use ideal::Used;
+use pairs::in_log;
+use state::all_zero;
+
+// Whether a row begins at `at` and is right by itself.
+fn row_sound(row: LogRow, at: usize, values: &[u8]) -> bool
+    ensures { λ r. ⌜ r ≡ rowSound logTable (logRowRight (now (values .entry))) at row ⌝ }
+{
+    let start = row.first as usize;
+    if start != at {
+        return false;
+    }
+    if row.length > 256 {
+        return false;
+    }
+    if row.identity == 0 {
+        return false;
+    }
+    let end = start + row.length as usize;
+    if end > values.len() {
+        return false;
+    }
+    let tag = tag_of(row.identity, &values[start..end]);
+    row.tag.0 == tag.0
+}
+
+// Whether the first n rows are right and follow each other, from 0 to `end`.
+fn rows_sound(rows: [LogRow; 64], n: usize, end: usize, values: &[u8]) -> bool
+    requires { ⌜ n ≤ 64 ⌝ }
+    ensures { λ r. ⌜ r ≡ rowsSound logTable (logRowRight (now (values .entry))) end 0 (take n rows) ⌝ }
+{
+    let mut at: usize = 0;
+    let mut i: usize = 0;
+    while i < n {
+        let row = rows[i];
+        if !row_sound(row, at, values) {
+            return false;
+        }
+        at += row.length as usize;
+        i += 1;
+    }
+    at == end
+}
+
+// Whether none of the first n rows has the pair of one before it. Their tags are right, so that a pair has one tag, and
+// values are compared only where identity and tag are equal.
+fn pairs_differ(rows: [LogRow; 64], n: usize, values: &[u8]) -> bool
+    requires { ⌜ (n ≤ 64) × RowsFit logTable rows n (length (now values)) ⌝ }
+    ensures { λ r. ⌜ r ≡ differBefore sameLogged [] (entriesOf logTable (now (values .entry)) (take n rows)) ⌝ }
+{
+    let mut i: usize = 0;
+    while i < n {
+        let row = rows[i];
+        let start = row.first as usize;
+        let end = start + row.length as usize;
+        if in_log(rows, i, values, row.identity, row.tag, &values[start..end]) {
+            return false;
+        }
+        i += 1;
+    }
+    true
+}
+
+// All bits of a row, joined.
+fn row_bits(row: LogRow) -> u64
+    ensures { λ r. ⌜ r ≡ logBits row ⌝ }
+{
+    (row.identity | row.tag.0) | (row.first as u64 | row.length as u64)
+}
+
+// Whether the rows from n on are blank: their bits are joined, with no way out of the loop.
+fn rows_blank(rows: [LogRow; 64], n: usize) -> bool
+    requires { ⌜ n ≤ 64 ⌝ }
+    ensures { λ r. ⌜ r ≡ every (logTable .isBlank) (drop n rows) ⌝ }
+{
+    let mut all: u64 = 0;
+    let mut i = n;
+    while i < 64 {
+        let row = rows[i];
+        all = all | row_bits(row);
+        i += 1;
+    }
+    all == 0
+}
+
+pub fn log_sound(rows: [LogRow; 64], values: &[u8], used: Used) -> bool
+    requires { ⌜ length (now values) ≡ 4096 ⌝ }
+    ensures { λ r. ⌜ r ≡ logSound rows (now (values .entry)) used ⌝ }
+{
+    if used.rows > 64 {
+        return false;
+    }
+    if used.bytes > 4096 {
+        return false;
+    }
+    let n = used.rows as usize;
+    let end = used.bytes as usize;
+    if !rows_sound(rows, n, end, values) {
+        return false;
+    }
+    if !pairs_differ(rows, n, values) {
+        return false;
+    }
+    if !rows_blank(rows, n) {
+        return false;
+    }
+    all_zero(&values[end..])
+}
