@@ -1,0 +1,38 @@
+//! Calls on the proved box through the C interface and on `second`, side by
+//! side, with the same boxes and records.
+//!
+//!     damage CALLS
+//!
+//! First what has a plan: each damage, each pair of them, each wrong size. Then
+//! random boxes and records until CALLS calls are made.
+
+mod counts;
+mod planned;
+mod random;
+
+use std::env;
+use std::process::ExitCode;
+
+use counts::Counts;
+
+fn main() -> ExitCode {
+    let argument = env::args().nth(1);
+    let Some(calls) = argument.and_then(|calls| calls.parse().ok()) else {
+        eprintln!("usage: damage CALLS");
+        return ExitCode::from(2);
+    };
+    let mut counts = Counts::default();
+    planned::sizes(&mut counts);
+    planned::damages_alone(&mut counts);
+    planned::damages_in_pairs(&mut counts);
+    counts.part("planned");
+    for seed in 0.. {
+        if counts.calls() >= calls {
+            break;
+        }
+        random::round(&mut counts, seed);
+        counts.progress(calls);
+    }
+    counts.part("random");
+    counts.summary()
+}

@@ -1,0 +1,177 @@
+/* Document 01's example, and then every other kind of call. */
+#include "host.h"
+
+#define HANDLE 281474976710663u      /* of length 1 and draw 7 */
+#define TAG 5952190651599004191u     /* FNV-1a of 01 00 00 00 00 00 00 00 41 */
+
+/* What each step alters, written by hand. */
+static void nothing(struct host *host)
+{
+    (void)host;
+}
+
+static void created(struct host *host)
+{
+    host->held.taken = 1;
+    host->held.identities[0] = 1;
+}
+
+static void started(struct host *host)
+{
+    host->held.running = 0;
+}
+
+static void heap_written(struct host *host)
+{
+    host->heaps[0] = 0x41;
+}
+
+static void protected(struct host *host)
+{
+    host->held.escrow = (struct caif_used){.rows = 1, .bytes = 1};
+    host->escrow[0] =
+        (struct caif_escrow_row){.source = 1, .recipient = 1, .handle = HANDLE, .first = 0, .length = 1};
+    host->escrow_values[0] = 0x41;
+}
+
+static void yielded(struct host *host)
+{
+    host->held.running = CAIF_NONE;
+}
+
+static void attested(struct host *host)
+{
+    host->held.log = (struct caif_used){.rows = 1, .bytes = 1};
+    host->log[0] = (struct caif_log_row){.identity = 1, .tag = TAG, .first = 0, .length = 1};
+    host->log_values[0] = 0x41;
+}
+
+static void retrieved(struct host *host)
+{
+    host->heaps[255] = 0x41;
+}
+
+static void heap_shown(struct host *host)
+{
+    host->output[0] = 0;
+    host->output[1] = 0x41;
+}
+
+static void shared_written(struct host *host)
+{
+    host->shared[1023] = 0x42;
+}
+
+static void shared_shown(struct host *host)
+{
+    host->output[0] = 0;
+    host->output[1] = 0x42;
+}
+
+static void exited(struct host *host)
+{
+    host->held.taken = 0;
+    host->held.running = CAIF_NONE;
+    host->held.identities[0] = 0;
+    host->heaps[0] = 0;
+    host->heaps[255] = 0;
+}
+
+/* A call: how it is written, its record, its answer, and what it alters. All of the record is used. */
+struct step {
+    uint8_t kind;
+    struct caif_fields fields;
+    uint8_t bytes[1];
+    size_t bytes_size;
+    uint8_t record[32];
+    size_t length;
+    uint8_t code;
+    uint64_t number;
+    uint16_t shown;
+    void (*alters)(struct host *);
+};
+
+#define FIELDS(...) .fields = {__VA_ARGS__}
+#define RECORD(...) .record = {__VA_ARGS__}, .length = sizeof((uint8_t[]){__VA_ARGS__})
+#define ONE_BYTE(b) .bytes = {b}, .bytes_size = 1
+
+static const struct step example[] = {
+    {CAIF_CREATE, FIELDS(.identity = 1), RECORD(0x07, 0x01, 0, 1, 0, 0, 0, 0, 0, 0, 0), .alters = created},
+    {CAIF_START, FIELDS(.place = 0), RECORD(0x03, 0x02, 0), .alters = started},
+    {CAIF_HEAP_WRITE, FIELDS(.place = 0), ONE_BYTE(0x41), RECORD(0x4B, 0x05, 0, 0, 0, 1, 0, 0x41), .number = 1,
+     .alters = heap_written},
+    {CAIF_PROTECT, FIELDS(.identity = 1, .length = 1, .number = 7),
+     RECORD(0x3D, 0x0B, 1, 0, 0, 0, 0, 0, 0, 0, 0, 0, 1, 0, 7, 0, 0, 0, 0, 0, 0, 0), .number = HANDLE,
+     .alters = protected},
+    {CAIF_REPORT, FIELDS(.place = 0), RECORD(0x01, 0x0D), .number = 65537, .alters = nothing},
+    {CAIF_YIELD, FIELDS(.place = 0), RECORD(0x01, 0x03), .alters = yielded},
+    {CAIF_YIELD, FIELDS(.place = 0), RECORD(0x01, 0x03), .code = CAIF_NONE_RUNS, .alters = nothing},
+};
+
+static const struct step other_kinds[] = {
+    {CAIF_START, FIELDS(.place = 0), RECORD(0x03, 0x02, 0), .alters = started},
+    {CAIF_ATTEST, FIELDS(.length = 1), RECORD(0x19, 0x09, 0, 0, 1, 0), .number = TAG, .alters = attested},
+    {CAIF_CHECK, FIELDS(.identity = 1, .number = TAG), ONE_BYTE(0x41),
+     RECORD(0x65, 0x0A, 1, 0, 0, 0, 0, 0, 0, 0, 0x1F, 0xA2, 0xF5, 0x8F, 0xDC, 0x6D, 0x9A, 0x52, 1, 0, 0x41),
+     .number = 1, .alters = nothing},
+    {CAIF_RETRIEVE, FIELDS(.identity = 1, .offset = 255, .number = HANDLE),
+     RECORD(0x2D, 0x0C, 1, 0, 0, 0, 0, 0, 0, 0, 0xFF, 0, 7, 0, 0, 0, 0, 0, 1, 0), .number = 1, .alters = retrieved},
+    {CAIF_HEAP_READ, FIELDS(.offset = 254, .length = 2), RECORD(0x1B, 0x06, 0, 0xFE, 0, 2, 0), .number = 2,
+     .shown = 2, .alters = heap_shown},
+    {CAIF_SHARED_WRITE, FIELDS(.offset = 1023), ONE_BYTE(0x42), RECORD(0x49, 0x07, 0xFF, 3, 1, 0, 0x42),
+     .number = 1, .alters = shared_written},
+    {CAIF_SHARED_READ, FIELDS(.offset = 1022, .length = 2), RECORD(0x19, 0x08, 0xFE, 3, 2, 0), .number = 2,
+     .shown = 2, .alters = shared_shown},
+    {CAIF_REPORT, FIELDS(.place = 0), RECORD(0x01, 0x0D), .number = 65793, .alters = nothing},
+    {CAIF_EXIT, FIELDS(.place = 0), RECORD(0x01, 0x04), .alters = exited},
+};
+
+#define COUNT(table) (sizeof(table) / sizeof *(table))
+
+/* The writer gives the record and alters nothing behind it. */
+static void check_written(const struct step *step, const char *label)
+{
+    uint8_t out[64], wanted[64];
+    memset(out, 0xCC, sizeof out);
+    memset(wanted, 0xCC, sizeof wanted);
+    memcpy(wanted, step->record, step->length);
+    struct caif_written written =
+        caif_write(step->kind, step->fields, step->bytes, step->bytes_size, out, sizeof out);
+    check(written.code == CAIF_ACCEPTED, label, "the writer's code");
+    check(written.length == step->length, label, "the record's length");
+    check(memcmp(out, wanted, sizeof out) == 0, label, "the record's bytes");
+}
+
+static void check_steps(struct host *host, const struct step *steps, size_t count, const char *name)
+{
+    for (size_t n = 0; n < count; n++) {
+        char label[64];
+        static struct host wanted;
+        snprintf(label, sizeof label, "%s, step %zu", name, n + 1);
+        check_written(&steps[n], label);
+        wanted = *host;
+        steps[n].alters(&wanted);
+        struct caif_reply reply = call(host, &right_sizes, steps[n].record, steps[n].length);
+        check_reply(&reply, steps[n].code, steps[n].number, steps[n].length, steps[n].shown, label);
+        check_host(host, &wanted, label);
+    }
+}
+
+void run_example(struct host *host)
+{
+    make_fresh(host);
+    for (size_t n = 0; n < COUNT(example); n++)
+        call(host, &right_sizes, example[n].record, example[n].length);
+}
+
+void check_calls(void)
+{
+    static struct host host, zeros;
+    make_fresh(&host);
+    memset(&zeros, 0, sizeof zeros);
+    memset(zeros.output, 0xEE, sizeof zeros.output);
+    zeros.held.running = 16;
+    check_host(&host, &zeros, "a fresh box");
+    check_steps(&host, example, COUNT(example), "the example");
+    check_steps(&host, other_kinds, COUNT(other_kinds), "other kinds");
+}

@@ -1,0 +1,53 @@
+/* A host in C: what it holds, and how it counts. */
+#ifndef HOST_H
+#define HOST_H
+
+#include <stdbool.h>
+#include <stdio.h>
+#include <string.h>
+
+#include "caif.h"
+
+/* Each buffer has one element more than is lent, which must never change. */
+struct host {
+    struct caif_box held;
+    struct caif_log_row log[CAIF_LOG_ROWS + 1];
+    struct caif_escrow_row escrow[CAIF_ESCROW_ROWS + 1];
+    uint8_t heaps[CAIF_HEAPS + 1];
+    uint8_t shared[CAIF_SHARED + 1];
+    uint8_t log_values[CAIF_LOG_VALUES + 1];
+    uint8_t escrow_values[CAIF_ESCROW_VALUES + 1];
+    uint8_t output[CAIF_OUTPUT + 1];
+};
+
+/* How much of each buffer is lent. */
+struct sizes {
+    size_t log, escrow, heaps, shared, log_values, escrow_values, output;
+};
+
+extern const struct sizes right_sizes;
+
+/* One assertion, counted. */
+void check(bool holds, const char *label, const char *what);
+
+/* A fresh box, the output buffer full of 0xEE. */
+void make_fresh(struct host *host);
+
+/* One call; the box record that comes back is kept. */
+struct caif_reply call(struct host *host, const struct sizes *sizes, const uint8_t *bytes, size_t count);
+
+/* Asserts each part of the box and of the buffers, and the elements that are not lent. */
+void check_host(const struct host *is, const struct host *wanted, const char *label);
+
+/* Asserts each field of an answer but for the box record. */
+void check_reply(const struct caif_reply *reply, uint8_t code, uint64_t number, size_t used, uint16_t shown,
+                 const char *label);
+
+/* Document 01's example on a fresh box, with no assertions. */
+void run_example(struct host *host);
+
+void check_layout(void);
+void check_calls(void);
+void check_refusals(void);
+
+#endif

@@ -1,0 +1,181 @@
+//! Document 01's example, and then every other kind of call.
+
+use interface::{BoxRecord, EscrowRow, Fields, Host, LogRow, Tally, Used, fresh, write};
+
+/// The handle of length 1 and draw 7.
+const HANDLE: u64 = 281_474_976_710_663;
+/// FNV-1a of 01 00 00 00 00 00 00 00 41.
+const TAG: u64 = 5_952_190_651_599_004_191;
+
+/// What the output buffer holds before the first call.
+pub const BEFORE: u8 = 0xEE;
+
+/// A call: how it is written, its record, its answer, and what it alters.
+struct Step {
+    kind: u8,
+    fields: Fields,
+    bytes: &'static [u8],
+    record: &'static [u8],
+    /// Code, number and count shown. All of the record is used.
+    answer: (u8, u64, u16),
+    alters: fn(&mut Host),
+}
+
+const NO_FIELDS: Fields = Fields { place: 0, identity: 0, offset: 0, length: 0, number: 0 };
+
+/// Document 01's input, record by record.
+#[rustfmt::skip]
+const EXAMPLE: [Step; 7] = [
+    Step {
+        kind: 1, fields: Fields { identity: 1, ..NO_FIELDS }, bytes: &[],
+        record: &[0x07, 0x01, 0, 1, 0, 0, 0, 0, 0, 0, 0], answer: (0, 0, 0),
+        alters: |host| { host.held.taken = 1; host.held.identities[0] = 1; },
+    },
+    Step {
+        kind: 2, fields: NO_FIELDS, bytes: &[],
+        record: &[0x03, 0x02, 0], answer: (0, 0, 0),
+        alters: |host| host.held.running = 0,
+    },
+    Step {
+        kind: 5, fields: NO_FIELDS, bytes: &[0x41],
+        record: &[0x4B, 0x05, 0, 0, 0, 1, 0, 0x41], answer: (0, 1, 0),
+        alters: |host| host.heaps()[0] = 0x41,
+    },
+    Step {
+        kind: 11, fields: Fields { identity: 1, length: 1, number: 7, ..NO_FIELDS }, bytes: &[],
+        record: &[0x3D, 0x0B, 1, 0, 0, 0, 0, 0, 0, 0, 0, 0, 1, 0, 7, 0, 0, 0, 0, 0, 0, 0],
+        answer: (0, HANDLE, 0),
+        alters: |host| {
+            host.held.escrow = Used { rows: 1, bytes: 1 };
+            host.escrow()[0] =
+                EscrowRow { source: 1, recipient: 1, handle: HANDLE, first: 0, length: 1 };
+            host.escrow_values()[0] = 0x41;
+        },
+    },
+    Step {
+        kind: 13, fields: NO_FIELDS, bytes: &[],
+        record: &[0x01, 0x0D], answer: (0, 65_537, 0), alters: |_| (),
+    },
+    Step {
+        kind: 3, fields: NO_FIELDS, bytes: &[],
+        record: &[0x01, 0x03], answer: (0, 0, 0),
+        alters: |host| host.held.running = 16,
+    },
+    Step {
+        kind: 3, fields: NO_FIELDS, bytes: &[],
+        record: &[0x01, 0x03], answer: (4, 0, 0), alters: |_| (),
+    },
+];
+
+#[rustfmt::skip]
+const OTHER_KINDS: [Step; 9] = [
+    Step {
+        kind: 2, fields: NO_FIELDS, bytes: &[],
+        record: &[0x03, 0x02, 0], answer: (0, 0, 0),
+        alters: |host| host.held.running = 0,
+    },
+    Step {
+        kind: 9, fields: Fields { length: 1, ..NO_FIELDS }, bytes: &[],
+        record: &[0x19, 0x09, 0, 0, 1, 0], answer: (0, TAG, 0),
+        alters: |host| {
+            host.held.log = Used { rows: 1, bytes: 1 };
+            host.log()[0] = LogRow { identity: 1, tag: TAG, first: 0, length: 1 };
+            host.log_values()[0] = 0x41;
+        },
+    },
+    Step {
+        kind: 10, fields: Fields { identity: 1, number: TAG, ..NO_FIELDS }, bytes: &[0x41],
+        record: &[
+            0x65, 0x0A, 1, 0, 0, 0, 0, 0, 0, 0,
+            0x1F, 0xA2, 0xF5, 0x8F, 0xDC, 0x6D, 0x9A, 0x52, 1, 0, 0x41,
+        ],
+        answer: (0, 1, 0), alters: |_| (),
+    },
+    Step {
+        kind: 12, fields: Fields { identity: 1, offset: 255, number: HANDLE, ..NO_FIELDS },
+        bytes: &[],
+        record: &[0x2D, 0x0C, 1, 0, 0, 0, 0, 0, 0, 0, 0xFF, 0, 7, 0, 0, 0, 0, 0, 1, 0],
+        answer: (0, 1, 0),
+        alters: |host| host.heaps()[255] = 0x41,
+    },
+    Step {
+        kind: 6, fields: Fields { offset: 254, length: 2, ..NO_FIELDS }, bytes: &[],
+        record: &[0x1B, 0x06, 0, 0xFE, 0, 2, 0], answer: (0, 2, 2),
+        alters: |host| host.output()[..2].copy_from_slice(&[0, 0x41]),
+    },
+    Step {
+        kind: 7, fields: Fields { offset: 1_023, ..NO_FIELDS }, bytes: &[0x42],
+        record: &[0x49, 0x07, 0xFF, 3, 1, 0, 0x42], answer: (0, 1, 0),
+        alters: |host| host.shared()[1_023] = 0x42,
+    },
+    Step {
+        kind: 8, fields: Fields { offset: 1_022, length: 2, ..NO_FIELDS }, bytes: &[],
+        record: &[0x19, 0x08, 0xFE, 3, 2, 0], answer: (0, 2, 2),
+        alters: |host| host.output()[..2].copy_from_slice(&[0, 0x42]),
+    },
+    Step {
+        kind: 13, fields: NO_FIELDS, bytes: &[],
+        record: &[0x01, 0x0D], answer: (0, 65_793, 0), alters: |_| (),
+    },
+    Step {
+        kind: 4, fields: NO_FIELDS, bytes: &[],
+        record: &[0x01, 0x04], answer: (0, 0, 0),
+        alters: |host| {
+            host.held.taken = 0;
+            host.held.running = 16;
+            host.held.identities[0] = 0;
+            host.heaps()[0] = 0;
+            host.heaps()[255] = 0;
+        },
+    },
+];
+
+pub fn check(tally: &mut Tally) {
+    let all_zeros = BoxRecord {
+        taken: 0,
+        running: 16,
+        identities: [0; 16],
+        log: Used { rows: 0, bytes: 0 },
+        escrow: Used { rows: 0, bytes: 0 },
+    };
+    tally.check(fresh() == all_zeros, || "the fresh box".into());
+    let mut host = Host::fresh();
+    host.output().fill(BEFORE);
+    for (n, step) in EXAMPLE.iter().chain(&OTHER_KINDS).enumerate() {
+        written(tally, n, step);
+        called(tally, n, step, &mut host);
+    }
+}
+
+/// The box after document 01's example.
+pub fn after_example() -> Host {
+    let mut host = Host::fresh();
+    host.output().fill(BEFORE);
+    for step in &EXAMPLE {
+        host.call(step.record);
+    }
+    host
+}
+
+/// The writer gives the record and alters nothing behind it.
+fn written(tally: &mut Tally, n: usize, step: &Step) {
+    let mut out = [0xCC; 64];
+    let mut wanted = out;
+    wanted[..step.record.len()].copy_from_slice(step.record);
+    let written = write(step.kind, step.fields, step.bytes, &mut out);
+    tally.check(written.code == 0, || format!("step {n}: the writer's code {}", written.code));
+    tally.check(written.length == step.record.len(), || format!("step {n}: the record's length"));
+    tally.check(out == wanted, || format!("step {n}: the record is {out:02x?}"));
+}
+
+fn called(tally: &mut Tally, n: usize, step: &Step, host: &mut Host) {
+    let mut wanted = host.clone();
+    (step.alters)(&mut wanted);
+    let reply = host.call(step.record);
+    let (code, number, shown) = step.answer;
+    tally.check(reply.code == code, || format!("step {n}: code {}", reply.code));
+    tally.check(reply.number == number, || format!("step {n}: number {}", reply.number));
+    tally.check(reply.used == step.record.len(), || format!("step {n}: used {}", reply.used));
+    tally.check(reply.shown == shown, || format!("step {n}: shown {}", reply.shown));
+    tally.check(*host == wanted, || format!("step {n}: the box, a buffer, or memory beside one"));
+}

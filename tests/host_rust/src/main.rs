@@ -1,0 +1,17 @@
+//! A host in Rust. All that is expected is written by hand.
+
+mod calls;
+mod layout;
+mod refusals;
+
+use std::process::ExitCode;
+
+use interface::Tally;
+
+fn main() -> ExitCode {
+    let mut tally = Tally::default();
+    layout::check(&mut tally);
+    calls::check(&mut tally);
+    refusals::check(&mut tally);
+    tally.summary()
+}

@@ -1,0 +1,154 @@
+//! What `include/caif.h` declares, in its order and under its names.
+
+/// `struct caif_used`.
+#[repr(C)]
+#[derive(Clone, Copy, Debug, Default, PartialEq, Eq)]
+pub struct Used {
+    pub rows: u16,
+    pub bytes: u16,
+}
+
+/// `struct caif_box`.
+#[repr(C)]
+#[derive(Clone, Copy, Debug, PartialEq, Eq)]
+pub struct BoxRecord {
+    pub taken: u16,
+    pub running: u8,
+    pub identities: [u64; 16],
+    pub log: Used,
+    pub escrow: Used,
+}
+
+/// `struct caif_log_row`.
+#[repr(C)]
+#[derive(Clone, Copy, Debug, Default, PartialEq, Eq)]
+pub struct LogRow {
+    pub identity: u64,
+    pub tag: u64,
+    pub first: u16,
+    pub length: u16,
+}
+
+/// `struct caif_escrow_row`.
+#[repr(C)]
+#[derive(Clone, Copy, Debug, Default, PartialEq, Eq)]
+pub struct EscrowRow {
+    pub source: u64,
+    pub recipient: u64,
+    pub handle: u64,
+    pub first: u16,
+    pub length: u16,
+}
+
+/// `struct caif_reply`.
+#[repr(C)]
+#[derive(Clone, Copy, Debug, PartialEq, Eq)]
+pub struct Reply {
+    pub held: BoxRecord,
+    pub code: u8,
+    pub number: u64,
+    pub used: usize,
+    pub shown: u16,
+}
+
+/// `struct caif_fields`.
+#[repr(C)]
+#[derive(Clone, Copy, Debug, Default, PartialEq, Eq)]
+pub struct Fields {
+    pub place: u8,
+    pub identity: u64,
+    pub offset: u16,
+    pub length: u16,
+    pub number: u64,
+}
+
+/// `struct caif_written`.
+#[repr(C)]
+#[derive(Clone, Copy, Debug, PartialEq, Eq)]
+pub struct Written {
+    pub code: u8,
+    pub length: usize,
+}
+
+unsafe extern "C" {
+    safe fn caif_fresh() -> BoxRecord;
+
+    fn caif_call(
+        held: BoxRecord,
+        log: *mut LogRow,
+        log_rows: usize,
+        escrow: *mut EscrowRow,
+        escrow_rows: usize,
+        heaps: *mut u8,
+        heaps_size: usize,
+        shared: *mut u8,
+        shared_size: usize,
+        log_values: *mut u8,
+        log_values_size: usize,
+        escrow_values: *mut u8,
+        escrow_values_size: usize,
+        output: *mut u8,
+        output_size: usize,
+        bytes: *const u8,
+        bytes_size: usize,
+    ) -> Reply;
+
+    fn caif_write(
+        kind: u8,
+        fields: Fields,
+        bytes: *const u8,
+        bytes_size: usize,
+        out: *mut u8,
+        out_size: usize,
+    ) -> Written;
+}
+
+/// What a host lends for a call.
+pub(crate) struct Lent<'a> {
+    pub log: &'a mut [LogRow],
+    pub escrow: &'a mut [EscrowRow],
+    pub heaps: &'a mut [u8],
+    pub shared: &'a mut [u8],
+    pub log_values: &'a mut [u8],
+    pub escrow_values: &'a mut [u8],
+    pub output: &'a mut [u8],
+}
+
+/// The box record of a fresh box.
+pub fn fresh() -> BoxRecord {
+    caif_fresh()
+}
+
+/// One call.
+pub(crate) fn call(held: BoxRecord, lent: Lent, bytes: &[u8]) -> Reply {
+    let Lent { log, escrow, heaps, shared, log_values, escrow_values, output } = lent;
+    // SAFETY: a slice is what the header asks of a pointer and its count, an
+    // empty one too: not null, aligned and so long. Two `&mut` never overlap.
+    unsafe {
+        caif_call(
+            held,
+            log.as_mut_ptr(),
+            log.len(),
+            escrow.as_mut_ptr(),
+            escrow.len(),
+            heaps.as_mut_ptr(),
+            heaps.len(),
+            shared.as_mut_ptr(),
+            shared.len(),
+            log_values.as_mut_ptr(),
+            log_values.len(),
+            escrow_values.as_mut_ptr(),
+            escrow_values.len(),
+            output.as_mut_ptr(),
+            output.len(),
+            bytes.as_ptr(),
+            bytes.len(),
+        )
+    }
+}
+
+/// The record of a call, at the front of `out`.
+pub fn write(kind: u8, fields: Fields, bytes: &[u8], out: &mut [u8]) -> Written {
+    // SAFETY: as in `call`.
+    unsafe { caif_write(kind, fields, bytes.as_ptr(), bytes.len(), out.as_mut_ptr(), out.len()) }
+}
