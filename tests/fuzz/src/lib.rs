@@ -1,0 +1,135 @@
+//! One input of the fuzzer: a box, alterations of it, and records. The proved
+//! box and `second` must agree after each call.
+
+use std::slice;
+use std::sync::LazyLock;
+
+use differential::records::WRONG_OUTPUT_SIZES;
+use differential::{bases, play};
+use interface::{Fields, Sides, write};
+use second::{Call, EscrowRow, Host, LogRow, OUTPUT_SIZE, ROWS, read};
+
+static BOXES: LazyLock<Vec<Host>> =
+    LazyLock::new(|| bases().into_iter().chain((0..12).map(|seed| play(seed).host)).collect());
+
+/// # Safety
+///
+/// `data` leads to `size` bytes.
+#[unsafe(no_mangle)]
+pub unsafe extern "C" fn LLVMFuzzerTestOneInput(data: *const u8, size: usize) -> i32 {
+    // SAFETY: libFuzzer says so.
+    let mut input =
+        Input(if size == 0 { &[] } else { unsafe { slice::from_raw_parts(data, size) } });
+    let mut host = BOXES[input.byte() % BOXES.len()].clone();
+    let output = *WRONG_OUTPUT_SIZES.get(255 - input.byte()).unwrap_or(&OUTPUT_SIZE);
+    for _ in 0..input.byte() % 4 {
+        alter(&mut host, &mut input);
+    }
+    calls(&mut Sides::new(host, vec![7; output]), input.0);
+    0
+}
+
+/// The bytes not yet taken; zeros follow.
+struct Input<'a>(&'a [u8]);
+
+impl Input<'_> {
+    fn byte(&mut self) -> usize {
+        let Some((&first, rest)) = self.0.split_first() else { return 0 };
+        self.0 = rest;
+        usize::from(first)
+    }
+
+    fn word(&mut self) -> usize {
+        self.byte() + 256 * self.byte()
+    }
+}
+
+/// One part of the box gets a number from the input.
+fn alter(host: &mut Host, input: &mut Input) {
+    let (part, at, value) = (input.byte(), input.word(), input.word());
+    let short = value as u16;
+    match part % 20 {
+        0 => host.record.taken ^= short,
+        1 => host.record.running = value as u8,
+        2 => host.record.identities[at % 16] = value as u64,
+        3 => host.record.log_rows = short,
+        4 => host.record.log_bytes = short,
+        5 => host.record.escrow_rows = short,
+        6 => host.record.escrow_bytes = short,
+        7..=10 => host.log.get_mut(at % ROWS).map_or((), |row| alter_log(row, part, at, value)),
+        11..=15 => {
+            host.escrow.get_mut(at % ROWS).map_or((), |row| alter_escrow(row, part, at, value))
+        }
+        16 => set(&mut host.heaps, at, value),
+        17 => set(&mut host.log_values, at, value),
+        18 => set(&mut host.escrow_values, at, value),
+        _ => resize(host, at, value),
+    }
+}
+
+fn alter_log(row: &mut LogRow, part: usize, at: usize, value: usize) {
+    match part % 4 {
+        0 => row.identity = value as u64,
+        1 => row.tag.0 ^= (value as u64) << (at / ROWS % 64),
+        2 => row.first = value as u16,
+        _ => row.length = value as u16,
+    }
+}
+
+fn alter_escrow(row: &mut EscrowRow, part: usize, at: usize, value: usize) {
+    match part % 5 {
+        0 => row.source = value as u64,
+        1 => row.recipient = value as u64,
+        2 => row.handle.0 ^= (value as u64) << (at / ROWS % 64),
+        3 => row.first = value as u16,
+        _ => row.length = value as u16,
+    }
+}
+
+fn set(bytes: &mut [u8], at: usize, value: usize) {
+    let at = at % bytes.len().max(1);
+    if let Some(byte) = bytes.get_mut(at) {
+        *byte ^= value as u8;
+    }
+}
+
+/// A lent buffer of another size, at most somewhat longer than its own.
+fn resize(host: &mut Host, which: usize, size: usize) {
+    match which % 6 {
+        0 => host.log.resize_with(size % 130, Default::default),
+        1 => host.escrow.resize_with(size % 130, Default::default),
+        2 => host.heaps.resize(size % 5_000, 0),
+        3 => host.shared.resize(size % 2_050, 0),
+        4 => host.log_values.resize(size % 5_000, 0),
+        _ => host.escrow_values.resize(size % 5_000, 0),
+    }
+}
+
+/// The records, one after the other, and what is left once no record can be read.
+fn calls(sides: &mut Sides, mut rest: &[u8]) {
+    loop {
+        let answer = sides.call(rest).unwrap_or_else(|message| panic!("{message}: {rest:02x?}"));
+        if let Ok((call, used)) = read(rest) {
+            writings(&call, &rest[..used]);
+        }
+        if answer.used == 0 {
+            return;
+        }
+        rest = &rest[answer.used..];
+    }
+}
+
+/// The writer gives the record that was read, and none in one byte fewer.
+fn writings(call: &Call, record: &[u8]) {
+    let (kind, fields, bytes) = call.parts();
+    let second::Fields { place, identity, offset, length, number } = fields;
+    let fields = Fields { place, identity, offset, length, number };
+    let mut out = vec![0; record.len()];
+    let written = write(kind.number(), fields, bytes, &mut out);
+    assert_eq!((written.code, written.length), (0, record.len()), "{call:?}");
+    assert_eq!(out, record);
+    let mut short = vec![0xCC; record.len() - 1];
+    let written = write(kind.number(), fields, bytes, &mut short);
+    assert_eq!((written.code, written.length), (17, 0), "{call:?}");
+    assert!(short.iter().all(|&byte| byte == 0xCC), "{call:?}");
+}
