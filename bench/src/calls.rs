@@ -1,0 +1,167 @@
+//! One call on a box, by kind.
+
+use std::hint::black_box;
+use std::io;
+use std::time::{Duration, Instant};
+
+use differential::calls::{
+    attest, check, create, heap_read, heap_write, protect, record_of, retrieve, shared_read,
+    shared_write, start,
+};
+use interface::Sides;
+use second::{Call, DRAW_LIMIT, Host, OUTPUT_SIZE, tag_of};
+
+use crate::table;
+
+pub struct Case {
+    name: String,
+    sides: Sides,
+    record: Vec<u8>,
+}
+
+impl Case {
+    fn new(box_name: &str, name: &str, host: &Host, code: u8, record: Vec<u8>) -> Self {
+        let mut host = host.clone();
+        let sides = Sides::new(host.clone(), vec![0; OUTPUT_SIZE]);
+        let answer = host.call(&mut [0; OUTPUT_SIZE], &record);
+        assert_eq!(answer.code, code, "{box_name}, {name}");
+        Case { name: format!("{box_name}: {name}"), sides, record }
+    }
+
+    /// Compares the two sides, then times them. Each call gets the box anew, and
+    /// the side that comes first changes from round to round.
+    pub fn time(self, rounds: usize) -> io::Result<()> {
+        let compared = self.sides.clone().call(&self.record);
+        compared.map_err(|message| io::Error::other(format!("{}: {message}", self.name)))?;
+        let (mut proved, mut plain) = (Vec::new(), Vec::new());
+        let mut sides = self.sides.clone();
+        for round in 0..rounds {
+            sides.clone_from(&self.sides);
+            if round % 2 == 0 {
+                proved.push(time_proved(&mut sides, &self.record));
+                plain.push(time_plain(&mut sides, &self.record));
+            } else {
+                plain.push(time_plain(&mut sides, &self.record));
+                proved.push(time_proved(&mut sides, &self.record));
+            }
+        }
+        table::line(&self.name, proved, plain);
+        Ok(())
+    }
+}
+
+fn time_proved(sides: &mut Sides, record: &[u8]) -> Duration {
+    let began = Instant::now();
+    black_box(sides.host.call(black_box(record)));
+    began.elapsed()
+}
+
+fn time_plain(sides: &mut Sides, record: &[u8]) -> Duration {
+    let began = Instant::now();
+    black_box(sides.second.call(&mut sides.output, black_box(record)));
+    began.elapsed()
+}
+
+/// Every kind accepted, on a box that holds only what the kind needs and on a
+/// full one; what the full one refuses; the soundness test alone.
+pub fn cases() -> Vec<Case> {
+    let mut cases = Vec::new();
+    add_soundness(&mut cases);
+    add_empty(&mut cases);
+    add_full(&mut cases);
+    cases
+}
+
+/// An empty record is answered 1, after the soundness test.
+fn add_soundness(cases: &mut Vec<Case>) {
+    cases.push(Case::new("fresh box", "soundness alone", &Host::fresh(), 1, Vec::new()));
+    cases.push(Case::new("full box", "soundness alone", &full(16, 64), 1, Vec::new()));
+}
+
+fn add_empty(cases: &mut Vec<Case>) {
+    let fresh = Host::fresh();
+    let created = after(fresh.clone(), &[create(0, 1)]);
+    let running = after(created.clone(), &[start(0)]);
+    let escrowed = after(running.clone(), &[protect(1, 0, 64, 7)]);
+    let bytes = [5; 1_024];
+    let mut add = |name: &str, host: &Host, call: Call| {
+        cases.push(Case::new("empty box", name, host, 0, record_of(&call)));
+    };
+    add("create", &fresh, create(0, 1));
+    add("start", &created, start(0));
+    add("yield", &running, Call::Yield);
+    add("exit", &running, Call::Exit);
+    add("heap write, 256 bytes", &running, heap_write(0, 0, &bytes[..256]));
+    add("heap read, 256 bytes", &running, heap_read(0, 0, 256));
+    add("shared write, 1,024 bytes", &fresh, shared_write(0, &bytes));
+    add("shared read, 1,024 bytes", &fresh, shared_read(0, 1_024));
+    add("attest, 64 bytes", &running, attest(0, 64));
+    add("check, 64 bytes", &fresh, check(1, 7, &bytes[..64]));
+    add("protect, 64 bytes", &running, protect(1, 0, 64, 7));
+    add("retrieve, 64 bytes", &escrowed, retrieve(1, 0, 64 * DRAW_LIMIT + 7));
+    add("report", &fresh, Call::Report);
+}
+
+fn add_full(cases: &mut Vec<Case>) {
+    let stopped = full(16, 64);
+    let running = after(stopped.clone(), &[start(15)]);
+    let one_left = after(full(16, 63), &[start(15)]);
+    let bytes = [5; 1_024];
+    let value = value(63);
+    let mut add = |name: &str, host: &Host, code: u8, call: Call| {
+        cases.push(Case::new("full box", name, host, code, record_of(&call)));
+    };
+    add("create, 15 services before", &full(15, 64), 0, create(15, 16));
+    add("start", &stopped, 0, start(15));
+    add("yield", &running, 0, Call::Yield);
+    add("exit", &running, 0, Call::Exit);
+    add("heap write, 256 bytes", &running, 0, heap_write(15, 0, &bytes[..256]));
+    add("heap read, 256 bytes", &running, 0, heap_read(15, 0, 256));
+    add("shared write, 1,024 bytes", &running, 0, shared_write(0, &bytes));
+    add("shared read, 1,024 bytes", &running, 0, shared_read(0, 1_024));
+    add("attest, the 64th row", &one_left, 0, attest(64, 64));
+    add("attest, logged already", &running, 0, attest(0, 64));
+    add("attest, refused 13", &running, 13, attest(64, 64));
+    add("check, the last row", &running, 0, check(16, tag_of(16, &value).0, &value));
+    add("protect, the 64th row, 63 draws passed over", &one_left, 0, protect(1, 64, 64, 0));
+    add("protect, refused 14", &running, 14, protect(1, 64, 64, 0));
+    add("retrieve, the last row", &running, 0, retrieve(16, 0, 64 * DRAW_LIMIT + 63));
+    add("report", &running, 0, Call::Report);
+}
+
+/// The n-th value of 64 bytes that is logged and escrowed. All are of one
+/// beginning, so that comparing two takes some bytes.
+fn value(n: u8) -> [u8; 64] {
+    let mut value = [9; 64];
+    value[60] = n;
+    value
+}
+
+/// Services of identities 1 and on, with heaps that are not zeros, and so many
+/// rows of 64 bytes in log and escrow, all of identity 16. None runs.
+fn full(services: u8, rows: u8) -> Host {
+    let mut host = Host::fresh();
+    for place in 0..services {
+        let identity = 16 - (u64::from(services) - 1 - u64::from(place));
+        let calls =
+            [create(place, identity), start(place), heap_write(place, 0, &[3; 256]), Call::Yield];
+        host = after(host, &calls);
+    }
+    let place = services - 1;
+    host = after(host, &[start(place)]);
+    for n in 0..rows {
+        let value = value(n);
+        let calls = [heap_write(place, 0, &value), attest(0, 64), protect(16, 0, 64, u64::from(n))];
+        host = after(host, &calls);
+    }
+    after(host, &[Call::Yield])
+}
+
+/// The box after these calls, which are accepted.
+fn after(mut host: Host, calls: &[Call]) -> Host {
+    for call in calls {
+        let answer = host.call(&mut [0; OUTPUT_SIZE], &record_of(call));
+        assert_eq!(answer.code, 0, "{call:?}");
+    }
+    host
+}
