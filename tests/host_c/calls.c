@@ -164,8 +164,27 @@ void run_example(struct host *host)
         call(host, &right_sizes, example[n].record, example[n].length);
 }
 
+/* A check of 65,535 bytes fills a buffer of CAIF_RECORD to the last byte, and one byte fewer is too short. */
+static void check_longest(void)
+{
+    static uint8_t bytes[65535], out[CAIF_RECORD];
+    struct caif_fields fields = {.identity = 1, .number = 2};
+    memset(bytes, 0x5A, sizeof bytes);
+    struct caif_written written = caif_write(CAIF_CHECK, fields, bytes, sizeof bytes, out, CAIF_RECORD - 1);
+    check(written.code == CAIF_NO_ROOM && written.length == 0, "the longest record", "one byte too few");
+    written = caif_write(CAIF_CHECK, fields, bytes, sizeof bytes, out, CAIF_RECORD);
+    check(written.code == CAIF_ACCEPTED && written.length == CAIF_RECORD, "the longest record", "code and length");
+    check(out[0] == 0x65 && out[1] == 10 && out[18] == 0xFF && out[19] == 0xFF, "the longest record", "front");
+    check(memcmp(out + 20, bytes, sizeof bytes) == 0, "the longest record", "bytes");
+    static struct host host;
+    make_fresh(&host);
+    struct caif_reply reply = call(&host, &right_sizes, out, CAIF_RECORD);
+    check_reply(&reply, CAIF_ACCEPTED, 0, CAIF_RECORD, 0, "the longest record");
+}
+
 void check_calls(void)
 {
+    check_longest();
     static struct host host, zeros;
     make_fresh(&host);
     memset(&zeros, 0, sizeof zeros);

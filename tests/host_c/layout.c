@@ -53,8 +53,20 @@ static void check_answers(void)
     FIELD(caif_written, length, 8);
 }
 
+/* The sizes that document 01 names. */
+static void check_sizes(void)
+{
+    check(CAIF_PLACES == 16 && CAIF_NONE == 16, "sizes", "places");
+    check(CAIF_HEAP == 256 && CAIF_HEAPS == 4096 && CAIF_SHARED == 1024, "sizes", "heaps and shared memory");
+    check(CAIF_LOG_ROWS == 64 && CAIF_LOG_VALUES == 4096, "sizes", "the log");
+    check(CAIF_ESCROW_ROWS == 64 && CAIF_ESCROW_VALUES == 4096, "sizes", "the escrow");
+    check(CAIF_OUTPUT == 1024 && CAIF_VALUE == 256, "sizes", "the output buffer and a value");
+    check(CAIF_DRAWS == (uint64_t)1 << 48, "sizes", "draws");
+}
+
 void check_layout(void)
 {
+    check_sizes();
     check_held();
     check_rows();
     check_answers();
