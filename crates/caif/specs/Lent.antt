@@ -1,0 +1,41 @@
+-- What the exported functions are given, leave and answer, as the definitions say it.
+use Prim.Native.Nat.{ℕ}
+use mathlib.Core.List.{List}
+use Rattle.record.specs.Write.{Outcome}
+use Rattle.ideal.specs.declared.BoxRecord.{BoxRecord}
+use Rattle.ideal.specs.declared.LogRow.{LogRow}
+use Rattle.ideal.specs.declared.EscrowRow.{EscrowRow}
+use Rattle.ideal.specs.Tables.{Tables}
+use Rattle.calls.specs.Entry.{EntryResult}
+use Rattle.caif.specs.declared.LentReply.{LentReply}
+use Rattle.caif.specs.declared.WrittenReply.{WrittenReply}
+
+-- a host's tables: the box record, and what it lends
+abbrev pub lentTables : BoxRecord → List LogRow → List EscrowRow → (heaps shared logValues escrowValues : List ℕ) → Tables
+lentTables b log escrow heaps shared logValues escrowValues =
+    record {
+      box = b;
+      heaps = heaps;
+      shared = shared;
+      logRows = log;
+      logValues = logValues;
+      escrowRows = escrow;
+      escrowValues = escrowValues;
+    }
+
+-- the reply, with the lent rows and buffers at exit
+abbrev pub lentResult : LentReply → List LogRow → List EscrowRow → (heaps shared logValues escrowValues output : List ℕ)
+    → EntryResult
+lentResult r log escrow heaps shared logValues escrowValues output =
+    record {
+      tables = lentTables (r .held) log escrow heaps shared logValues escrowValues;
+      code = r .code;
+      number = r .number;
+      used = r .used;
+      shown = r .shown;
+      output = output;
+    }
+
+-- the writer's answer, with its buffer at exit
+abbrev pub lentOutcome : WrittenReply → (buffer : List ℕ) → Outcome
+lentOutcome r buffer = record { code = r .code; length = r .length; buffer = buffer }
