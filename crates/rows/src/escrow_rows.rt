@@ -2,7 +2,7 @@
 ghost use mathlib.Core.Path.{_≡_};
 ghost use Prim.Native.Nat.{_<_};
 ghost use lib.ListN.{length, set, getD};
-ghost use Rattle.ideal.specs.Tables.{escrowTable};
+ghost use Rattle.ideal.specs.Tables.{escrowTable, freshTables};
 use ideal::EscrowRow;
 use state::EscrowTable;
 use state::fresh_escrow;
@@ -27,36 +27,38 @@ pub fn put_escrow_row(rows: &mut [EscrowRow], at: usize, row: EscrowRow)
     rows[at] = row;
 }
 
-// The table with one row another.
-fn escrow_placed(table: EscrowTable, i: usize, row: EscrowRow) -> EscrowTable
-    requires { ⌜ i < 64 ⌝ }
-    ensures { λ r. ⌜ r .rows ≡ set (table .rows) i row ⌝ }
+// Rows for a copy to write over.
+fn blank_escrow() -> [EscrowRow; 64]
+    ensures { λ r. ⌜ r ≡ freshTables .escrowRows ⌝ }
 {
-    let mut rows = table.rows;
-    rows[i] = row;
+    let table = fresh_escrow();
+    table.rows
+}
+
+fn escrow_table(rows: [EscrowRow; 64]) -> EscrowTable
+    ensures { λ r. ⌜ r .rows ≡ rows ⌝ }
+{
     EscrowTable { rows }
 }
 
-// One row a turn into a table that a covered function can take.
+// One row a turn into a local array: a table passed by value each turn would be moved each turn.
 pub fn copy_escrow(rows: &[EscrowRow]) -> EscrowTable
     requires { ⌜ length (now rows) ≡ 64 ⌝ }
     ensures { λ r. ⌜ r .rows ≡ now (rows .entry) ⌝ }
 {
-    let mut table = fresh_escrow();
+    let mut held = blank_escrow();
     let mut i = 0;
     while i < 64 {
-        table = escrow_placed(table, i, escrow_row_at(rows, i));
+        held[i] = escrow_row_at(rows, i);
         i = i + 1;
     }
-    table
+    escrow_table(held)
 }
 
-fn escrow_row_of(table: EscrowTable, i: usize) -> EscrowRow
-    requires { ⌜ i < 64 ⌝ }
-    ensures { λ r. ⌜ r ≡ getD (table .rows) i (escrowTable .blank) ⌝ }
+fn escrow_rows_of(table: EscrowTable) -> [EscrowRow; 64]
+    ensures { λ r. ⌜ r ≡ table .rows ⌝ }
 {
-    let rows = table.rows;
-    rows[i]
+    table.rows
 }
 
 // The dual of the copy: every lent row is written.
@@ -64,9 +66,10 @@ pub fn store_escrow(rows: &mut [EscrowRow], table: EscrowTable)
     requires { ⌜ length (now rows) ≡ 64 ⌝ }
     ensures { λ _. ⌜ now (rows .exit) ≡ table .rows ⌝ }
 {
+    let held = escrow_rows_of(table);
     let mut i = 0;
     while i < 64 {
-        put_escrow_row(rows, i, escrow_row_of(table, i));
+        rows[i] = held[i];
         i = i + 1;
     }
 }

@@ -2,7 +2,7 @@
 ghost use mathlib.Core.Path.{_≡_};
 ghost use Prim.Native.Nat.{_<_};
 ghost use lib.ListN.{length, set, getD};
-ghost use Rattle.ideal.specs.Tables.{logTable};
+ghost use Rattle.ideal.specs.Tables.{logTable, freshTables};
 use ideal::LogRow;
 use state::LogTable;
 use state::fresh_log;
@@ -27,36 +27,38 @@ pub fn put_log_row(rows: &mut [LogRow], at: usize, row: LogRow)
     rows[at] = row;
 }
 
-// The table with one row another.
-fn log_placed(table: LogTable, i: usize, row: LogRow) -> LogTable
-    requires { ⌜ i < 64 ⌝ }
-    ensures { λ r. ⌜ r .rows ≡ set (table .rows) i row ⌝ }
+// Rows for a copy to write over.
+fn blank_log() -> [LogRow; 64]
+    ensures { λ r. ⌜ r ≡ freshTables .logRows ⌝ }
 {
-    let mut rows = table.rows;
-    rows[i] = row;
+    let table = fresh_log();
+    table.rows
+}
+
+fn log_table(rows: [LogRow; 64]) -> LogTable
+    ensures { λ r. ⌜ r .rows ≡ rows ⌝ }
+{
     LogTable { rows }
 }
 
-// One row a turn into a table that a covered function can take.
+// One row a turn into a local array: a table passed by value each turn would be moved each turn.
 pub fn copy_log(rows: &[LogRow]) -> LogTable
     requires { ⌜ length (now rows) ≡ 64 ⌝ }
     ensures { λ r. ⌜ r .rows ≡ now (rows .entry) ⌝ }
 {
-    let mut table = fresh_log();
+    let mut held = blank_log();
     let mut i = 0;
     while i < 64 {
-        table = log_placed(table, i, log_row_at(rows, i));
+        held[i] = log_row_at(rows, i);
         i = i + 1;
     }
-    table
+    log_table(held)
 }
 
-fn log_row_of(table: LogTable, i: usize) -> LogRow
-    requires { ⌜ i < 64 ⌝ }
-    ensures { λ r. ⌜ r ≡ getD (table .rows) i (logTable .blank) ⌝ }
+fn log_rows_of(table: LogTable) -> [LogRow; 64]
+    ensures { λ r. ⌜ r ≡ table .rows ⌝ }
 {
-    let rows = table.rows;
-    rows[i]
+    table.rows
 }
 
 // The dual of the copy: every lent row is written.
@@ -64,9 +66,10 @@ pub fn store_log(rows: &mut [LogRow], table: LogTable)
     requires { ⌜ length (now rows) ≡ 64 ⌝ }
     ensures { λ _. ⌜ now (rows .exit) ≡ table .rows ⌝ }
 {
+    let held = log_rows_of(table);
     let mut i = 0;
     while i < 64 {
-        put_log_row(rows, i, log_row_of(table, i));
+        rows[i] = held[i];
         i = i + 1;
     }
 }
