@@ -35,13 +35,14 @@ fn blank_escrow() -> [EscrowRow; 64]
     table.rows
 }
 
+// A table is made and taken apart by covered functions, so that the walks by hand need not look into one.
 fn escrow_table(rows: [EscrowRow; 64]) -> EscrowTable
     ensures { λ r. ⌜ r .rows ≡ rows ⌝ }
 {
     EscrowTable { rows }
 }
 
-// One row a turn into a local array: a table passed by value each turn would be moved each turn.
+// One row a turn into a local array: a table passed by value would be moved whole each turn.
 pub fn copy_escrow(rows: &[EscrowRow]) -> EscrowTable
     requires { ⌜ length (now rows) ≡ 64 ⌝ }
     ensures { λ r. ⌜ r .rows ≡ now (rows .entry) ⌝ }

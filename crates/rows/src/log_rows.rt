@@ -35,13 +35,14 @@ fn blank_log() -> [LogRow; 64]
     table.rows
 }
 
+// A table is made and taken apart by covered functions, so that the walks by hand need not look into one.
 fn log_table(rows: [LogRow; 64]) -> LogTable
     ensures { λ r. ⌜ r .rows ≡ rows ⌝ }
 {
     LogTable { rows }
 }
 
-// One row a turn into a local array: a table passed by value each turn would be moved each turn.
+// One row a turn into a local array: a table passed by value would be moved whole each turn.
 pub fn copy_log(rows: &[LogRow]) -> LogTable
     requires { ⌜ length (now rows) ≡ 64 ⌝ }
     ensures { λ r. ⌜ r .rows ≡ now (rows .entry) ⌝ }
