@@ -1,8 +1,10 @@
 -- What a check says of history. Assumes nothing.
-use Prim.Native.Nat.{ℕ, suc}
-use mathlib.Core.Path.{_≡_, refl, sym, _∙_}
+use Prim.Native.Nat.{ℕ, suc, _+_, _*_, _≤_, min}
+use mathlib.Core.Path.{_≡_, refl, sym, _∙_, ap}
 use mathlib.Core.Bool.{Bool, true, false, cond}
 use mathlib.Core.List.{List}
+use lib.ListN.{length, drop, length-take}
+use native.Mathlib.Nat.{min-le-left}
 use native.Mathlib.Omega.{arith}
 use borrow.Author.Tests.{eqb-false, ne-eqb}
 use Rattle.fnv.specs.declared.Tag.{Tag}
@@ -10,8 +12,8 @@ use Rattle.record.specs.Call.{Call, attest, check}
 use Rattle.record.specs.Read.{whole, read}
 use Rattle.ideal.specs.State.{State}
 use Rattle.ideal.specs.Step.{logged, tests, first, refusal, number}
-use Rattle.ideal.specs.Box.{Element, callOn, elementAt}
-use Rattle.ideal.specs.Accuracy.{LogsAt, Says, Sized, CheckAt}
+use Rattle.ideal.specs.Box.{Element, callOn, elementAt, tablesBefore}
+use Rattle.ideal.specs.Accuracy.{LogsAt, Says, Sized, CheckAt, LongCheckIsNo}
 use Rattle.ideal.proofs.Bools.{by-cases, clash}
 use Rattle.ideal.proofs.Chain.{failed}
 use Rattle.ideal.proofs.Runs.{stateBefore, valid-before, caller-before, accepted-at, accepts-at, Accepted, number-at}
@@ -83,3 +85,19 @@ module _ (es : List Element) (k i : ℕ) (g : Tag) (v : List ℕ) (used : ℕ)
               says false (record { sized = p .0; named = p .1; log = f }),
         );
       }
+
+-- what is logged has at most 256 bytes
+logged-short : (es : List Element) (k i : ℕ) (g : Tag) (v : List ℕ) → LogsAt callOn es i v g k → length v ≤ 256
+logged-short es k i g v l =
+    let a = accepted-at es k (attest (l .offset) (l .size)) (l .used) (l .reads) (l .accepts) in
+    let w = attest-passed (stateBefore es k) (l .offset) (l .size) (valid-before es k) (a .passes) in
+    let t = tablesBefore callOn es k in
+    let own = drop (256 * t .box .running + l .offset) (t .heaps) in
+    let few : length v ≡ min (l .size) (length own) = ap length (sym (l .bytes)) ∙ length-take (l .size) own in
+    let low = min-le-left (l .size) (length own) in
+    omega arith
+
+pub long-check-is-no : LongCheckIsNo callOn
+long-check-is-no es k i g v used reads long sized named =
+    check-at es k i g v used reads .no .1
+    (sized, named, λ x. let h = logged-short es (x .index) i g v (x .there) in absurd (omega arith))

@@ -118,6 +118,11 @@ module _ (box : Tables → Element → Result) where
   CheckIsAccurate = (es : List Element) (k i : ℕ) (tag : Tag) (v : List ℕ) (used : ℕ)
       → read (elementAt es k .bytes) ≡ whole (check i tag v) used → CheckAt box es k i tag v
 
+  -- a check of more than 256 bytes is 0
+  abbrev pub LongCheckIsNo : Type 0
+  LongCheckIsNo = (es : List Element) (k i : ℕ) (tag : Tag) (v : List ℕ) (used : ℕ)
+      → read (elementAt es k .bytes) ≡ whole (check i tag v) used → 256 < length v → Sized box es k → (i ≡ 0 → ⊥) → Says box es 0 k
+
   abbrev pub RetrieveIsAccurate : Type 0
   RetrieveIsAccurate = (es : List Element) (k source offset : ℕ) (handle : Handle) (used : ℕ)
       → read (elementAt es k .bytes) ≡ whole (retrieve source offset handle) used → RetrieveAt box es k source offset handle

@@ -1,4 +1,4 @@
--- Sound boxes, said a second time: the layouts of the states that proofs call valid, and no others.
+-- Sound boxes, said a second time: the layouts of the well-formed states (Valid.antt), and no others.
 use Prim.Native.Nat.{ℕ}
 use mathlib.Core.Path.{_≡_}
 use mathlib.Core.Logic.{_↔_}
@@ -13,6 +13,6 @@ pub record LaidOut (t : Tables) : Type 0 where
   pub valid : Valid state
   pub layout : t ≡ tables state
 
--- sound boxes, said a second time: the layouts of well-formed states
+-- soundness is that, with an output buffer of its size
 abbrev pub SoundBoxes : Type 0
 SoundBoxes = (t : Tables) (n : ℕ) → Sound t n ↔ ((n ≡ 1024) × LaidOut t)

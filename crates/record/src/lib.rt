@@ -75,7 +75,7 @@ pub enum Reading {
     Whole { call: Call, used: usize },
     // The record ends before a field does, or is empty.
     Cut,
-    // The kind is missing or is none of the thirteen.
+    // Bit 0 of the map is down, or the kind is none of the thirteen.
     UnknownKind,
     // The map isn't the kind's.
     WrongMap,

@@ -1,4 +1,4 @@
--- What a call on a part of the box leaves and answers: the same chain of tests as the box's own.
+-- What a call on a part of the box answers: refused, accepted, or settled by the first test that fails.
 use Prim.Native.Nat.{ℕ, zero, suc}
 use Rattle.state.specs.declared.Answer.{Answer}
 

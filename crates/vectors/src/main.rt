@@ -1,4 +1,4 @@
-// The published FNV-1a vectors of 64 bits, run on the proved library. `stdout` has the published values.
+// FNV-1a vectors of 64 bits, run on the proved library. `stdout` has their values (docs/DECISIONS.md, 3).
 ghost use mathlib.Core.Path.{_≡_};
 ghost use Rattle.vectors.specs.Lines.{lineOf};
 use libc::STDOUT_FILENO;

@@ -1,5 +1,5 @@
 //! Scripts for every boundary, every refusal and every order of refusals, most
-//! with the whole sheet written by hand.
+//! with the whole expected sheet, written out or computed by the case.
 
 mod bounds;
 mod draws;
