@@ -8,13 +8,13 @@ ghost use Rattle.ideal.specs.Step.{isEscrowed};
 ghost use Rattle.ideal.specs.Tables.{escrowTable, entryOf, entriesOf};
 ghost use Rattle.escrow.specs.Search.{entryFound, Within};
 ghost use Rattle.escrow.specs.Narrow.{EscrowFits, retrieveAnswer, retrieveHeaps};
+use buffers::put;
 use ideal::BoxRecord;
 use ideal::EscrowRow;
 use record::Handle;
 use state::Answer;
 use state::EscrowTable;
 use state::accepted;
-use state::put;
 use state::refused;
 
 // The search's answer: the index of a row, or that there is none.

@@ -4,6 +4,7 @@ ghost use Prim.Native.Nat.{_≤_};
 ghost use lib.ListN.{length};
 ghost use Rattle.state.specs.Counts.{Room};
 ghost use Rattle.escrow.specs.Narrow.{EscrowFits, resultOf, moreEscrow, protectValue, protectOn};
+use buffers::put;
 use handles::free_handle;
 use ideal::BoxRecord;
 use ideal::EscrowRow;
@@ -14,7 +15,6 @@ use state::EscrowAnswer;
 use state::EscrowTable;
 use state::accepted;
 use state::is_full;
-use state::put;
 use state::refused;
 
 // The escrow with one row and its value more.

@@ -7,6 +7,7 @@ ghost use Rattle.ideal.specs.Tables.{logTable, entryOf, entriesOf};
 ghost use Rattle.ideal.specs.Fit.{RowsFit};
 ghost use Rattle.state.specs.Counts.{Room};
 ghost use Rattle.log.specs.Narrow.{LogFits, resultOf, moreLog, attestValue, attestOn, checkOn};
+use buffers::put;
 use fnv::Tag;
 use fnv::tag_of;
 use ideal::BoxRecord;
@@ -18,7 +19,6 @@ use state::LogAnswer;
 use state::LogTable;
 use state::accepted;
 use state::is_full;
-use state::put;
 use state::refused;
 
 // The log with one row and its value more.

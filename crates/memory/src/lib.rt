@@ -3,11 +3,11 @@ ghost use mathlib.Core.Path.{_≡_};
 ghost use Prim.Native.Nat.{_+_, _*_, _≤_};
 ghost use lib.ListN.{length};
 ghost use Rattle.memory.specs.Narrow.{heapRefusal, rangeRefusal, showing, fronted, heapWriteAnswer, heapWriteHeaps, heapReadAnswer, heapReadOutput, sharedWriteAnswer, sharedWriteShared, sharedReadAnswer, sharedReadOutput};
+use buffers::copy;
+use buffers::put;
 use ideal::BoxRecord;
 use state::Answer;
 use state::accepted;
-use state::copy;
-use state::put;
 use state::refused;
 
 // 11 or 0. Nothing is added, so that nothing wraps, however long the bytes are.

@@ -5,10 +5,9 @@ ghost use lib.ListN.{length, take};
 ghost use Rattle.ideal.specs.Step.{isLogged, logged};
 ghost use Rattle.ideal.specs.Tables.{logTable, entryOf, entriesOf};
 ghost use Rattle.ideal.specs.Fit.{RowsFit};
-ghost use Rattle.state.specs.Counts.{Room};
+use buffers::same;
 use fnv::Tag;
 use ideal::LogRow;
-use state::same;
 
 // Whether a row is this identity, tag and value. The bytes are compared last, where the tags are equal.
 pub fn row_is(row: LogRow, values: &[u8], identity: u64, tag: Tag, value: &[u8]) -> bool

@@ -4,10 +4,10 @@ ghost use Prim.Native.Nat.{_^_, _<_};
 ghost use Rattle.ideal.specs.Tables.{takenMap};
 ghost use Rattle.services.specs.Narrow.{Leaving, createOn, exitOn, exitHeaps};
 use crate::refuse;
+use buffers::clear;
 use ideal::BoxRecord;
 use state::BoxAnswer;
 use state::accepted;
-use state::clear;
 
 // The bit of a place in the map of taken places.
 fn bit_of(place: u8) -> u16

@@ -7,11 +7,11 @@ ghost use Rattle.ideal.specs.State.{every};
 ghost use Rattle.ideal.specs.Tables.{escrowTable, entriesOf};
 ghost use Rattle.ideal.specs.Soundness.{sameHandle};
 ghost use Rattle.soundness.specs.Tests.{rowSound, rowsSound, differBefore, escrowRowRight, escrowSound, escrowBits};
+use buffers::all_zero;
 use handles::handle_in;
 use ideal::EscrowRow;
 use ideal::Used;
 use record::Handle;
-use state::all_zero;
 
 // The length that a handle carries.
 fn length_of(handle: Handle) -> u64

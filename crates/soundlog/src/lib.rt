@@ -7,11 +7,11 @@ ghost use Rattle.ideal.specs.State.{every};
 ghost use Rattle.ideal.specs.Tables.{logTable, entriesOf};
 ghost use Rattle.ideal.specs.Fit.{RowsFit};
 ghost use Rattle.soundness.specs.Tests.{rowSound, rowsSound, differBefore, logRowRight, sameLogged, logSound, logBits};
+use buffers::all_zero;
 use fnv::tag_of;
 use ideal::LogRow;
 use ideal::Used;
 use pairs::in_log;
-use state::all_zero;
 
 // Whether a row begins at `at` and is right by itself.
 fn row_sound(row: LogRow, at: usize, values: &[u8]) -> bool

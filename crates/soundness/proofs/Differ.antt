@@ -18,7 +18,7 @@ use Rattle.ideal.proofs.Facts.{every-both}
 use Rattle.ideal.proofs.Kept.{eqb-comm, same-comm}
 use Rattle.ideal.proofs.Lists.{any-append, any-one}
 use Rattle.pairs.proofs.Pairs.{pair-logged}
-use Rattle.state.proofs.Loops.{one-on}
+use Rattle.buffers.proofs.Loops.{one-on}
 use Rattle.soundness.specs.Tests.{differBefore, sameLogged}
 
 not-or : (a b : Bool) → not (a || b) ≡ not a && not b

@@ -18,8 +18,8 @@ use Rattle.ideal.specs.Tables.{RowsOf, logTable, escrowTable, entryOf, entriesO
 use Rattle.ideal.specs.Soundness.{chained, short}
 use Rattle.ideal.proofs.Bools.{and-left, and-right, and-true, and-nil, and-assoc}
 use Rattle.ideal.proofs.Facts.{and-swap}
-use Rattle.state.proofs.Loops.{joined}
-use Rattle.state.proofs.Loops.{one-on}
+use Rattle.buffers.proofs.Loops.{joined}
+use Rattle.buffers.proofs.Loops.{one-on}
 use Rattle.soundness.specs.Tests.{rowSound, rowsSound, logBits, escrowBits}
 
 -- one element on

@@ -6,8 +6,8 @@ ghost use lib.ListN.{length};
 ghost use Rattle.ideal.specs.Tables.{takenMap, chunks};
 ghost use Rattle.ideal.specs.Soundness.{runningTaken, allZero, emptyHeapsZero};
 ghost use Rattle.soundness.specs.Tests.{placesSound};
+use buffers::all_zero;
 use ideal::BoxRecord;
-use state::all_zero;
 
 fn running_taken(b: BoxRecord) -> bool
     ensures { λ r. ⌜ r ≡ runningTaken b ⌝ }

@@ -1,13 +1,7 @@
-// What goes in and comes back by value, the loops over lent bytes, and whether a table has room.
-mod bytes;
+// What goes in and comes back by value, a fresh box, and whether a table has room.
 mod fresh;
 mod full;
 
-pub use bytes::all_zero;
-pub use bytes::clear;
-pub use bytes::copy;
-pub use bytes::put;
-pub use bytes::same;
 pub use fresh::fresh_escrow;
 pub use fresh::fresh_log;
 pub use fresh::fresh_record;

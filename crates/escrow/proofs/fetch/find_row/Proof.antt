@@ -9,7 +9,7 @@ use Rattle.ideal.specs.State.{find}
 use Rattle.ideal.specs.Step.{isEscrowed}
 use Rattle.ideal.specs.Tables.{escrowTable, entriesOf}
 use Rattle.escrow.specs.Search.{entryFound, Within}
-use Rattle.state.proofs.Loops.{one-on}
+use Rattle.buffers.proofs.Loops.{one-on}
 use Rattle.escrow.proofs.fetch.find_row.Statement.{statement}
 use Rattle.escrow.proofs.fetch.find_row.Tie as tie
 

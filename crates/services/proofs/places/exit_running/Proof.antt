@@ -14,7 +14,7 @@ use Rattle.ideal.specs.Tables.{takenMap}
 use Rattle.ideal.proofs.Kept.{cleared-length}
 use Rattle.ideal.proofs.Table.{part-length}
 use Rattle.state.specs.Answers.{settled, answered}
-use Rattle.state.proofs.Loops.{part-replaced}
+use Rattle.buffers.proofs.Loops.{part-replaced}
 use Rattle.services.specs.Narrow.{exitOn, exitHeaps}
 use Rattle.services.proofs.Map.{map-left}
 use Rattle.services.proofs.places.exit_running.Statement.{statement}

@@ -5,8 +5,8 @@ use native.Mathlib.Omega.{arith}
 use lib.ListN.{length, drop, set, replicate, length-set}
 use lib.Seq.{drop-length}
 use borrow.Author.Fill.{fill-more}
-use Rattle.state.proofs.bytes.clear.Statement.{statement}
-use Rattle.state.proofs.bytes.clear.Tie as tie
+use Rattle.buffers.proofs.clear.Statement.{statement}
+use Rattle.buffers.proofs.clear.Tie as tie
 
 -- the first i bytes are zero, the others as they were
 abbrev Inv-loop : tie.InvT-loop

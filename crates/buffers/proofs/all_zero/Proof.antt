@@ -8,9 +8,9 @@ use lib.Seq.{drop-length}
 use Rattle.ideal.specs.State.{every}
 use Rattle.ideal.specs.Soundness.{allZero}
 use Rattle.ideal.proofs.Bools.{and-assoc, and-nil}
-use Rattle.state.proofs.Loops.{joined, zero-step}
-use Rattle.state.proofs.bytes.all_zero.Statement.{statement}
-use Rattle.state.proofs.bytes.all_zero.Tie as tie
+use Rattle.buffers.proofs.Loops.{joined, zero-step}
+use Rattle.buffers.proofs.all_zero.Statement.{statement}
+use Rattle.buffers.proofs.all_zero.Tie as tie
 
 -- the bytes joined so far and the bytes to come are all zero just where the whole is
 abbrev Inv-loop : tie.InvT-loop

@@ -4,9 +4,9 @@ use mathlib.Core.List.{_++_}
 use native.Mathlib.Omega.{arith}
 use lib.ListN.{length, take, drop, length-take}
 use borrow.Author.Needs.{needs}
-use Rattle.state.proofs.Loops.{part-replaced, copied-whole}
-use Rattle.state.proofs.bytes.put.Statement.{statement}
-use Rattle.state.proofs.bytes.put.Tie as tie
+use Rattle.buffers.proofs.Loops.{part-replaced, copied-whole}
+use Rattle.buffers.proofs.put.Statement.{statement}
+use Rattle.buffers.proofs.put.Tie as tie
 
 add-end : tie.Need-add-end
 add-end c = search needs

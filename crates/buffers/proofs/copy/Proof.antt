@@ -4,9 +4,9 @@ use mathlib.Core.List.{List, _++_}
 use native.Mathlib.Omega.{arith}
 use lib.ListN.{length, take, drop, set, getD, length-set}
 use lib.Seq.{take-length}
-use Rattle.state.proofs.Loops.{copy-more}
-use Rattle.state.proofs.bytes.copy.Statement.{statement}
-use Rattle.state.proofs.bytes.copy.Tie as tie
+use Rattle.buffers.proofs.Loops.{copy-more}
+use Rattle.buffers.proofs.copy.Statement.{statement}
+use Rattle.buffers.proofs.copy.Tie as tie
 
 -- the first i bytes of src stand over the front of dst
 abbrev Inv-loop : tie.InvT-loop

@@ -5,9 +5,9 @@ use lib.ListN.{length, drop}
 use lib.Seq.{drop-length}
 use borrow.Author.Tests.{eq-eqb, ne-eqb}
 use Rattle.ideal.specs.State.{sameBytes}
-use Rattle.state.proofs.Loops.{same-step, lengths-differ}
-use Rattle.state.proofs.bytes.same.Statement.{statement}
-use Rattle.state.proofs.bytes.same.Tie as tie
+use Rattle.buffers.proofs.Loops.{same-step, lengths-differ}
+use Rattle.buffers.proofs.same.Statement.{statement}
+use Rattle.buffers.proofs.same.Tie as tie
 
 -- the bytes to come are the same just where the whole is
 abbrev Inv-loop : tie.InvT-loop
