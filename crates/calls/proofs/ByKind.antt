@@ -29,8 +29,10 @@ use Rattle.memory.specs.Narrow.{heapWriteAnswer, heapWriteHeaps, heapReadAnswer
 use Rattle.memory.proofs.Bridge.{Shows, heap-write-step, heap-read-step, shared-write-step, shared-read-step}
 use Rattle.log.specs.Narrow.{logOf, moreLog, attested, attestOn, checkOn}
 use Rattle.log.proofs.Bridge.{onLog, attest-step, check-step}
-use Rattle.escrow.specs.Narrow.{moreEscrow, protectUnless, protectOn, retrieveAnswer, retrieveHeaps}
-use Rattle.escrow.proofs.Bridge.{replaceEscrow, protect-step, retrieve-step}
+use Rattle.escrow.specs.Narrow.{moreEscrow, protectUnless, protectOn}
+use Rattle.escrow.proofs.Bridge.{replaceEscrow, protect-step}
+use Rattle.retrieval.specs.Narrow.{retrieveAnswer, retrieveHeaps}
+use Rattle.retrieval.proofs.Bridge.{retrieve-step}
 use Rattle.calls.specs.Entry.{EntryResult, resultOn, carriedOn}
 
 -- ---- what each kind leaves and answers

@@ -22,7 +22,8 @@ use Rattle.memory.specs.Narrow.{heapWriteAnswer, heapWriteHeaps, heapReadAnswer
 use Rattle.log.specs.Narrow as log-part
 use Rattle.log.specs.Narrow.{attestOn, checkOn}
 use Rattle.escrow.specs.Narrow as escrow-part
-use Rattle.escrow.specs.Narrow.{protectOn, retrieveAnswer, retrieveHeaps}
+use Rattle.escrow.specs.Narrow.{protectOn}
+use Rattle.retrieval.specs.Narrow.{retrieveAnswer, retrieveHeaps}
 use Rattle.soundness.specs.Parts.{tablesOf}
 use Rattle.calls.specs.declared.Reply.{Reply}
 use Rattle.calls.specs.Entry.{resultOf, carriedOn}

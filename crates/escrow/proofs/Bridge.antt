@@ -1,20 +1,18 @@
--- What protect and retrieve do to the tables of a valid state is the step of that state, laid out. Assumes nothing.
+-- What protect does to the tables of a valid state is the step of that state, laid out. Assumes nothing.
 use Prim.Native.Nat.{ℕ, zero, suc, _+_, _^_, _≤_, _<_}
 use mathlib.Core.Path.{_≡_, refl, sym, ap, _∙_}
 use mathlib.Core.List.{List, [], _∷_, _++_}
 use native.Mathlib.Omega.{arith}
 use lib.ListN.{length}
-use lib.Seq.{sets}
 use lib.Dec.{eqb, leb}
 use borrow.Author.Tests.{eqb-false, ltb-false}
-use Rattle.record.specs.declared.Handle.{Handle}
 use Rattle.record.specs.declared.Draw.{Draw}
-use Rattle.record.specs.Call.{protect, retrieve}
+use Rattle.record.specs.Call.{protect}
 use Rattle.ideal.specs.declared.BoxRecord.{BoxRecord}
 use Rattle.ideal.specs.declared.EscrowRow.{EscrowRow}
 use Rattle.ideal.specs.declared.Used.{Used}
 use Rattle.ideal.specs.State.{State, EscrowKey, Escrowed, part, ownPart, heapAt}
-use Rattle.ideal.specs.Step.{found, absent, valueIn, freeHandle, full, _then_, accept, first, idle, beyond, tests, refusal, withEscrow, protected, effect, number, shown, step}
+use Rattle.ideal.specs.Step.{freeHandle, full, _then_, accept, first, idle, beyond, tests, refusal, withEscrow, protected, effect, number, shown, step}
 use Rattle.ideal.specs.Tables.{Tables, escrowTable, usedBy, boxRecord, tables, stateOf}
 use Rattle.ideal.specs.Box.{Result, laid}
 use Rattle.ideal.proofs.Chain.{failed, passed}
@@ -22,10 +20,10 @@ use Rattle.ideal.specs.Valid.{Valid}
 use Rattle.ideal.proofs.Table.{part-length, Stands, escrow-lawful}
 use Rattle.ideal.proofs.Fit.{rows-fit}
 use Rattle.ideal.proofs.More.{row-added, value-added, counts-raised}
-use Rattle.ideal.proofs.HeapBytes.{replaceHeaps, own-bytes, written-bytes}
+use Rattle.ideal.proofs.HeapBytes.{own-bytes}
 use Rattle.state.specs.Answers.{settled}
-use Rattle.state.proofs.Settled.{answerOf, settledResult, part-settled, Moves, laid-step}
-use Rattle.escrow.specs.Narrow.{EscrowFits, callerOf, heapByte, escrowOf, EscrowResult, moreEscrow, protectUnless, protectRefusal, protectOn, foundOn, retrieveRefusal, retrieveAnswer, retrieveHeaps}
+use Rattle.state.proofs.Settled.{answerOf, settledResult, Moves, laid-step}
+use Rattle.escrow.specs.Narrow.{EscrowFits, callerOf, heapByte, escrowOf, EscrowResult, moreEscrow, protectUnless, protectRefusal, protectOn}
 use Rattle.state.specs.Counts.{fullBy, Room}
 use Rattle.state.proofs.Rooms.{has-room}
 
@@ -37,9 +35,9 @@ escrow-fits {rows} {values} {used} s =
 
 -- ---- what an accepted call passed
 
-record HeapFits (running offset size : ℕ) : Type 0 where
-  runs : running < 16
-  within : offset + size ≤ 256
+pub record HeapFits (running offset size : ℕ) : Type 0 where
+  pub runs : running < 16
+  pub within : offset + size ≤ 256
 
 record Protects (b : BoxRecord) (offset size : ℕ) : Type 0 where
   heap : HeapFits (b .running) offset size
@@ -107,8 +105,6 @@ module _ (t : Tables) (k : Valid (stateOf t)) (e : tables (stateOf t) ≡ t) whe
   unfolding tables boxRecord
   counts = ap (λ x. x .box .escrow) e
 
-  -- ---- protect
-
   module _ (i o n : ℕ) (d : Draw) where
     abbrev value : List ℕ
     value = part (t .heaps) (heapByte (t .box) o) n
@@ -173,43 +169,3 @@ module _ (t : Tables) (k : Valid (stateOf t)) (e : tables (stateOf t) ≡ t) whe
     unfolding protectOn
     protect-step used =
         rw protect-refusal at (laid-step used e protect-moves) ∙ protect-settled (protectRefusal (t .box) i o n d) used
-
-  -- ---- retrieve
-
-  module _ (i o : ℕ) (h : Handle) where
-    abbrev refused : ℕ
-    refused = retrieveRefusal (t .box) (t .escrowRows) (t .escrowValues) i o h
-
-    abbrev handed : List ℕ
-    handed = valueIn (foundOn (t .box) (t .escrowRows) (t .escrowValues) i h)
-
-    retrieves : refused ≡ 0 → HeapFits (t .box .running) o (length handed)
-    unfolding retrieveRefusal beyond stateOf
-    retrieves r =
-        let p = t .box .running in
-        let r₁ = passed 3 (eqb p 16) _ r in
-        let r₂ = passed 8 (eqb i 0) _ r₁ in
-        let r₃ = passed 9 (absent (foundOn (t .box) (t .escrowRows) (t .escrowValues) i h)) _ r₂ in
-        let busy = eqb-false p 16 (failed 3 (eqb p 16) _ r) in
-        record {
-          runs = omega (arith, k .runs);
-          within = ltb-false 256 (o + length handed) (failed 10 (beyond 256 o (length handed)) _ r₃);
-        }
-
-    retrieve-moves : Moves t (replaceHeaps t (sets (t .heaps) (heapByte (t .box) o) handed)) (retrieve i o h) (length handed) []
-    unfolding effect number shown refusal tests found retrieveRefusal idle stateOf
-    retrieve-moves =
-        record {
-          leaves = λ r. let p = retrieves r in written-bytes t k e o handed (p .runs) (p .within);
-          answers = λ r. refl;
-          shows = λ r. refl;
-        }
-
-    pub retrieve-step : (used : ℕ) → laid (step (stateOf t) (retrieve i o h) used)
-        ≡ record {
-          tables = replaceHeaps t (retrieveHeaps (t .box) (t .escrowRows) (t .heaps) (t .escrowValues) i o h);
-          answer = answerOf (retrieveAnswer (t .box) (t .escrowRows) (t .escrowValues) i o h) used [];
-        }
-    unfolding retrieveHeaps retrieveAnswer refusal tests found retrieveRefusal idle stateOf
-    retrieve-step used =
-        laid-step used e retrieve-moves ∙ part-settled (replaceHeaps t) (t .heaps) _ refused (length handed) used refl

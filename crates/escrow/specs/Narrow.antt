@@ -1,26 +1,24 @@
--- What protect and retrieve leave and answer, on the parts of the box that they are given.
+-- What protect leaves and answers, on the parts of the box that it is given.
 use Prim.Native.Nat.{ℕ, _+_, _*_, _^_, _≤_}
 use mathlib.Core.Path.{_≡_}
 use mathlib.Core.List.{List}
-use mathlib.Core.Option.{Option}
 use lib.ListN.{length, getD, take, set}
 use lib.Seq.{sets}
 use lib.Dec.{eqb, leb}
-use Rattle.record.specs.declared.Handle.{Handle}
 use Rattle.record.specs.declared.Draw.{Draw}
 use Rattle.ideal.specs.declared.BoxRecord.{BoxRecord}
 use Rattle.ideal.specs.declared.EscrowRow.{EscrowRow}
 use Rattle.ideal.specs.declared.Used.{Used}
-use Rattle.ideal.specs.State.{EscrowKey, Escrowed, part, find}
-use Rattle.ideal.specs.Step.{isEscrowed, absent, valueIn, freeHandle, accept, _then_, first, beyond}
+use Rattle.ideal.specs.State.{EscrowKey, Escrowed, part}
+use Rattle.ideal.specs.Step.{freeHandle, accept, _then_, first, beyond}
 use Rattle.ideal.specs.Tables.{escrowTable, entriesOf}
 use Rattle.ideal.specs.Fit.{RowsFit}
 use Rattle.state.specs.declared.Answer.{Answer}
 use Rattle.state.specs.declared.EscrowAnswer.{EscrowAnswer}
 use Rattle.state.specs.Counts.{fullBy}
-use Rattle.state.specs.Answers.{refusedWith, acceptedWith, settled, answered}
+use Rattle.state.specs.Answers.{refusedWith, acceptedWith, settled}
 
--- ---- what callers show
+-- ---- what callers of protect and of retrieve show
 
 -- the used rows are rows of the table, and lie within its value bytes
 pub record EscrowFits (used : Used) (rows : List EscrowRow) (values : List ℕ) : Type 0 where
@@ -100,24 +98,3 @@ unfoldable pub protectOn : BoxRecord → List EscrowRow → (heaps values : List
     → EscrowResult
 protectOn b rows heaps values i o n d =
     protectUnless (protectRefusal b i o n d) b rows values (callerOf b) i d (part heaps (heapByte b o) n)
-
--- ---- retrieve
-
--- what the source escrowed for the running program under the handle
-abbrev pub foundOn : BoxRecord → List EscrowRow → List ℕ → (source : ℕ) → Handle → Option Escrowed
-foundOn b rows values source h = find (isEscrowed h source (callerOf b)) (escrowOf b rows values)
-
-unfoldable pub retrieveRefusal : BoxRecord → List EscrowRow → List ℕ → (source offset : ℕ) → Handle → ℕ
-retrieveRefusal b rows values i o h =
-    let entry = foundOn b rows values i h in
-    first
-    ((4, eqb (b .running) 16) then (9, eqb i 0) then (10, absent entry)
-    then (11, beyond 256 o (length (valueIn entry))) then accept)
-
-unfoldable pub retrieveAnswer : BoxRecord → List EscrowRow → List ℕ → (source offset : ℕ) → Handle → Answer
-retrieveAnswer b rows values i o h =
-    answered (retrieveRefusal b rows values i o h) (length (valueIn (foundOn b rows values i h)))
-
-unfoldable pub retrieveHeaps : BoxRecord → List EscrowRow → (heaps values : List ℕ) → (source offset : ℕ) → Handle → List ℕ
-retrieveHeaps b rows heaps values i o h =
-    settled (retrieveRefusal b rows values i o h) heaps (sets heaps (heapByte b o) (valueIn (foundOn b rows values i h)))

@@ -1,6 +1,140 @@
-// The escrow: protect and retrieve.
-mod fetch;
-mod store;
+// Protect: a value stored for a recipient under a free handle.
+ghost use mathlib.Core.Path.{_≡_};
+ghost use Prim.Native.Nat.{_≤_};
+ghost use lib.ListN.{length};
+ghost use Rattle.state.specs.Counts.{Room};
+ghost use Rattle.escrow.specs.Narrow.{EscrowFits, resultOf, moreEscrow, protectValue, protectOn};
+use buffers::put;
+use handles::free_handle;
+use ideal::BoxRecord;
+use ideal::EscrowRow;
+use ideal::Used;
+use record::Draw;
+use record::Handle;
+use state::EscrowAnswer;
+use state::EscrowTable;
+use state::accepted;
+use state::is_full;
+use state::refused;
 
-pub use fetch::retrieve;
-pub use store::protect;
+// The escrow with one row and its value more.
+fn escrow_more(
+    b: BoxRecord,
+    escrow: EscrowTable,
+    values: &mut [u8],
+    source: u64,
+    recipient: u64,
+    handle: Handle,
+    value: &[u8],
+) -> EscrowAnswer
+    requires { ⌜ (length (now values) ≡ 4096) × Room (b .escrow) (length (now value)) ⌝ }
+    ensures { λ r. ⌜ resultOf r (now (values .exit)) ≡ moreEscrow b (escrow .rows) (now (values .entry)) (record { source = source; recipient = recipient; handle = handle }) (now (value .entry)) ⌝ }
+{
+    let used = b.escrow;
+    let size = value.len() as u16;
+    put(value, values, used.bytes as usize);
+    let row = EscrowRow {
+        source,
+        recipient,
+        handle,
+        first: used.bytes,
+        length: size,
+    };
+    let i = used.rows as usize;
+    let mut more = escrow;
+    more.rows[i] = row;
+    let raised = Used {
+        rows: used.rows + 1,
+        bytes: used.bytes + size,
+    };
+    let mut next = b;
+    next.escrow = raised;
+    EscrowAnswer {
+        held: next,
+        escrow: more,
+        answer: accepted(handle.0),
+    }
+}
+
+// A value stored under the first free handle.
+fn protect_value(
+    b: BoxRecord,
+    escrow: EscrowTable,
+    values: &mut [u8],
+    source: u64,
+    recipient: u64,
+    draw: Draw,
+    value: &[u8],
+) -> EscrowAnswer
+    requires { ⌜ (b .escrow .rows ≤ 64) × (length (now values) ≡ 4096) × (length (now value) ≤ 256) ⌝ }
+    ensures { λ r. ⌜ resultOf r (now (values .exit)) ≡ protectValue b (escrow .rows) (now (values .entry)) source recipient draw (now (value .entry)) ⌝ }
+{
+    if draw.0 >= 281474976710656 {
+        return EscrowAnswer {
+            held: b,
+            escrow,
+            answer: refused(12),
+        };
+    }
+    let used = b.escrow;
+    if is_full(used, value.len()) {
+        return EscrowAnswer {
+            held: b,
+            escrow,
+            answer: refused(14),
+        };
+    }
+    let rows = escrow.rows;
+    let handle = free_handle(rows, used.rows as usize, value.len() as u16, draw);
+    escrow_more(b, escrow, values, source, recipient, handle, value)
+}
+
+// The value is the middle part of the heaps that the running place has at the offset.
+pub fn protect(
+    b: BoxRecord,
+    escrow: EscrowTable,
+    heaps: &[u8],
+    values: &mut [u8],
+    recipient: u64,
+    offset: u16,
+    size: u16,
+    draw: Draw,
+) -> EscrowAnswer
+    requires { ⌜ (b .running ≤ 16) × (length (now heaps) ≡ 4096) × EscrowFits (b .escrow) (escrow .rows) (now values) ⌝ }
+    ensures { λ r. ⌜ resultOf r (now (values .exit)) ≡ protectOn b (escrow .rows) (now (heaps .entry)) (now (values .entry)) recipient offset size draw ⌝ }
+{
+    if b.running == 16 {
+        return EscrowAnswer {
+            held: b,
+            escrow,
+            answer: refused(4),
+        };
+    }
+    if recipient == 0 {
+        return EscrowAnswer {
+            held: b,
+            escrow,
+            answer: refused(9),
+        };
+    }
+    if offset as usize + size as usize > 256 {
+        return EscrowAnswer {
+            held: b,
+            escrow,
+            answer: refused(11),
+        };
+    }
+    let place = b.running as usize;
+    let start = 256 * place + offset as usize;
+    let end = start + size as usize;
+    let source = b.identities[place];
+    protect_value(
+        b,
+        escrow,
+        values,
+        source,
+        recipient,
+        draw,
+        &heaps[start..end],
+    )
+}

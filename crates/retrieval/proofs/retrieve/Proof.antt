@@ -7,11 +7,11 @@ use borrow.Author.Needs.{needs}
 use borrow.Author.Tests.{eq-eqb, ne-eqb, lt-ltb, le-ltb}
 use Rattle.ideal.specs.Step.{absent, first}
 use Rattle.state.specs.Answers.{settled, answered}
-use Rattle.escrow.specs.Search.{entryFound}
-use Rattle.escrow.specs.Narrow.{foundOn, retrieveRefusal, retrieveAnswer, retrieveHeaps}
-use Rattle.escrow.proofs.Steps.{RowFound, row-found, retrieve-beyond, retrieve-done}
-use Rattle.escrow.proofs.fetch.retrieve.Statement.{statement}
-use Rattle.escrow.proofs.fetch.retrieve.Tie as tie
+use Rattle.retrieval.specs.Search.{entryFound}
+use Rattle.retrieval.specs.Narrow.{foundOn, retrieveRefusal, retrieveAnswer, retrieveHeaps}
+use Rattle.retrieval.proofs.Steps.{RowFound, row-found, retrieve-beyond, retrieve-done}
+use Rattle.retrieval.proofs.retrieve.Statement.{statement}
+use Rattle.retrieval.proofs.retrieve.Tie as tie
 
 refused-requires : tie.Need-refused-requires
 refused-requires c κs = search needs

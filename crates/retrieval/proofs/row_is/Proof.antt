@@ -1,7 +1,7 @@
 use borrow.Author.Tests.{eq-eqb, ne-eqb}
 use Rattle.ideal.specs.Step.{isEscrowed}
-use Rattle.escrow.proofs.fetch.row_is.Statement.{statement}
-use Rattle.escrow.proofs.fetch.row_is.Tie as tie
+use Rattle.retrieval.proofs.row_is.Statement.{statement}
+use Rattle.retrieval.proofs.row_is.Tie as tie
 
 returns : tie.Need-returns
 unfolding isEscrowed

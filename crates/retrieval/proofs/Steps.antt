@@ -17,10 +17,10 @@ use Rattle.ideal.specs.Fit.{RowsFit}
 use Rattle.ideal.proofs.Table.{part-length}
 use Rattle.state.specs.declared.Answer.{Answer}
 use Rattle.state.specs.Answers.{refusedWith, acceptedWith, settled, answered}
-use Rattle.escrow.specs.declared.fetch.Found.{Found}
-use Rattle.escrow.specs.declared.fetch.Found.the-variants.{At}
-use Rattle.escrow.specs.Search.{entryFound, Within}
-use Rattle.escrow.specs.Narrow.{foundOn, retrieveRefusal, retrieveAnswer, retrieveHeaps}
+use Rattle.retrieval.specs.declared.Found.{Found}
+use Rattle.retrieval.specs.declared.Found.the-variants.{At}
+use Rattle.retrieval.specs.Search.{entryFound, Within}
+use Rattle.retrieval.specs.Narrow.{foundOn, retrieveRefusal, retrieveAnswer, retrieveHeaps}
 
 abbrev pub rowAt : List EscrowRow → ℕ → EscrowRow
 rowAt rows i = getD rows i (escrowTable .blank)

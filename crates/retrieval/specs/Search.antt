@@ -6,8 +6,8 @@ use lib.ListN.{getD}
 use Rattle.ideal.specs.declared.EscrowRow.{EscrowRow}
 use Rattle.ideal.specs.State.{Escrowed}
 use Rattle.ideal.specs.Tables.{escrowTable, entryOf}
-use Rattle.escrow.specs.declared.fetch.Found.{Found}
-use Rattle.escrow.specs.declared.fetch.Found.the-variants.{At, Nothing}
+use Rattle.retrieval.specs.declared.Found.{Found}
+use Rattle.retrieval.specs.declared.Found.the-variants.{At, Nothing}
 
 -- what each case of the search's answer stands for: what is escrowed in that row, or nothing (a retrieve's refusal 10)
 unfoldable pub entryFound : List ℕ → List EscrowRow → Found → Option Escrowed

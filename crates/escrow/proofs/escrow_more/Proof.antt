@@ -1,7 +1,7 @@
 use borrow.Author.Needs.{needs}
 use Rattle.escrow.specs.Narrow.{moreEscrow}
-use Rattle.escrow.proofs.store.escrow_more.Statement.{statement}
-use Rattle.escrow.proofs.store.escrow_more.Tie as tie
+use Rattle.escrow.proofs.escrow_more.Statement.{statement}
+use Rattle.escrow.proofs.escrow_more.Tie as tie
 
 cast-size : tie.Need-cast-size
 cast-size c = search needs

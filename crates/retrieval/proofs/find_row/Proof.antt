@@ -8,10 +8,10 @@ use borrow.Author.Needs.{needs}
 use Rattle.ideal.specs.State.{find}
 use Rattle.ideal.specs.Step.{isEscrowed}
 use Rattle.ideal.specs.Tables.{escrowTable, entriesOf}
-use Rattle.escrow.specs.Search.{entryFound, Within}
+use Rattle.retrieval.specs.Search.{entryFound, Within}
 use Rattle.buffers.proofs.Loops.{one-on}
-use Rattle.escrow.proofs.fetch.find_row.Statement.{statement}
-use Rattle.escrow.proofs.fetch.find_row.Tie as tie
+use Rattle.retrieval.proofs.find_row.Statement.{statement}
+use Rattle.retrieval.proofs.find_row.Tie as tie
 
 abbrev Inv-loop : tie.InvT-loop
 Inv-loop n handle source recipient rows i₀ i =

@@ -7,8 +7,8 @@ use Rattle.ideal.specs.Step.{first, beyond}
 use Rattle.ideal.proofs.Table.{part-length}
 use Rattle.state.specs.Answers.{settled}
 use Rattle.escrow.specs.Narrow.{protectUnless, protectValue, protectRefusal, protectOn}
-use Rattle.escrow.proofs.store.protect.Statement.{statement}
-use Rattle.escrow.proofs.store.protect.Tie as tie
+use Rattle.escrow.proofs.protect.Statement.{statement}
+use Rattle.escrow.proofs.protect.Tie as tie
 
 refused-requires : tie.Need-refused-requires
 refused-requires c κs = search needs

@@ -5,8 +5,8 @@ use Rattle.ideal.specs.Step.{first}
 use Rattle.state.specs.Answers.{settled}
 use Rattle.escrow.specs.Narrow.{protectUnless, protectValue}
 use Rattle.state.proofs.Rooms.{has-room}
-use Rattle.escrow.proofs.store.protect_value.Statement.{statement}
-use Rattle.escrow.proofs.store.protect_value.Tie as tie
+use Rattle.escrow.proofs.protect_value.Statement.{statement}
+use Rattle.escrow.proofs.protect_value.Tie as tie
 
 refused-requires : tie.Need-refused-requires
 refused-requires c κs = search needs

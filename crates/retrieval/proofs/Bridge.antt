@@ -1,0 +1,60 @@
+-- What retrieve does to the tables of a valid state is the step of that state, laid out. Assumes nothing.
+use Prim.Native.Nat.{ℕ, _+_}
+use mathlib.Core.Path.{_≡_, refl, _∙_}
+use mathlib.Core.List.{List, []}
+use native.Mathlib.Omega.{arith}
+use lib.ListN.{length}
+use lib.Seq.{sets}
+use lib.Dec.{eqb}
+use borrow.Author.Tests.{eqb-false, ltb-false}
+use Rattle.record.specs.declared.Handle.{Handle}
+use Rattle.record.specs.Call.{retrieve}
+use Rattle.ideal.specs.Step.{found, absent, valueIn, idle, beyond, tests, refusal, effect, number, shown, step}
+use Rattle.ideal.specs.Tables.{Tables, tables, stateOf}
+use Rattle.ideal.specs.Box.{laid}
+use Rattle.ideal.proofs.Chain.{failed, passed}
+use Rattle.ideal.specs.Valid.{Valid}
+use Rattle.ideal.proofs.HeapBytes.{replaceHeaps, written-bytes}
+use Rattle.state.proofs.Settled.{answerOf, part-settled, Moves, laid-step}
+use Rattle.escrow.specs.Narrow.{heapByte}
+use Rattle.escrow.proofs.Bridge.{HeapFits}
+use Rattle.retrieval.specs.Narrow.{foundOn, retrieveRefusal, retrieveAnswer, retrieveHeaps}
+
+module _ (t : Tables) (k : Valid (stateOf t)) (e : tables (stateOf t) ≡ t) where
+  module _ (i o : ℕ) (h : Handle) where
+    abbrev refused : ℕ
+    refused = retrieveRefusal (t .box) (t .escrowRows) (t .escrowValues) i o h
+
+    abbrev handed : List ℕ
+    handed = valueIn (foundOn (t .box) (t .escrowRows) (t .escrowValues) i h)
+
+    retrieves : refused ≡ 0 → HeapFits (t .box .running) o (length handed)
+    unfolding retrieveRefusal beyond stateOf
+    retrieves r =
+        let p = t .box .running in
+        let r₁ = passed 3 (eqb p 16) _ r in
+        let r₂ = passed 8 (eqb i 0) _ r₁ in
+        let r₃ = passed 9 (absent (foundOn (t .box) (t .escrowRows) (t .escrowValues) i h)) _ r₂ in
+        let busy = eqb-false p 16 (failed 3 (eqb p 16) _ r) in
+        record {
+          runs = omega (arith, k .runs);
+          within = ltb-false 256 (o + length handed) (failed 10 (beyond 256 o (length handed)) _ r₃);
+        }
+
+    retrieve-moves : Moves t (replaceHeaps t (sets (t .heaps) (heapByte (t .box) o) handed)) (retrieve i o h) (length handed) []
+    unfolding effect number shown refusal tests found retrieveRefusal idle stateOf
+    retrieve-moves =
+        record {
+          leaves = λ r. let p = retrieves r in written-bytes t k e o handed (p .runs) (p .within);
+          answers = λ r. refl;
+          shows = λ r. refl;
+        }
+
+    pub retrieve-step : (used : ℕ) → laid (step (stateOf t) (retrieve i o h) used)
+        ≡ record {
+          tables = replaceHeaps t (retrieveHeaps (t .box) (t .escrowRows) (t .heaps) (t .escrowValues) i o h);
+          answer = answerOf (retrieveAnswer (t .box) (t .escrowRows) (t .escrowValues) i o h) used [];
+        }
+    unfolding retrieveHeaps retrieveAnswer refusal tests found retrieveRefusal idle stateOf
+    retrieve-step used =
+        laid-step used e retrieve-moves ∙ part-settled (replaceHeaps t) (t .heaps) _ refused (length handed) used refl
