@@ -1,4 +1,4 @@
--- A turn from what the entry and the line's writer leave.
+-- A turn from what the entry on a sound box and the line's writer leave.
 use Prim.Native.Nat.{ℕ, _≤_}
 use mathlib.Core.Path.{_≡_, ap, sym, subst}
 use mathlib.Core.List.{List}
@@ -7,8 +7,9 @@ use lib.ListN.{length, take, drop, length-append}
 use lib.Seq.{take-at}
 use Rattle.ideal.specs.Step.{Answer}
 use Rattle.ideal.specs.Tables.{Tables}
-use Rattle.ideal.specs.Box.{outputAfter}
-use Rattle.calls.specs.Entry.{EntryResult, resultOn, entryOn}
+use Rattle.ideal.specs.Box.{callOn, outputAfter}
+use Rattle.ideal.specs.Layouts.{Sound}
+use Rattle.calls.specs.Entry.{EntryResult, resultOn, soundOn}
 use Rattle.sheet.specs.Sheet.{line, lastCode, stops, called}
 use Rattle.sheet.specs.Stored.{AtFront}
 use Rattle.sheet.specs.Turns.{turn}
@@ -18,22 +19,22 @@ use Rattle.turns.specs.Next.{TurnMade}
 abbrev pub answerOf : EntryResult → Answer
 answerOf x = record { code = x .code; number = x .number; used = x .used; shown = take (x .shown) (x .output) }
 
-module _ (x : EntryResult) (t : Tables) (rest output : List ℕ) (e : x ≡ entryOn t rest output) where
+module _ (x : EntryResult) (t : Tables) (rest output : List ℕ) (e : x ≡ soundOn t rest output) where
   pub shown-fits : x .shown ≤ length (x .output)
-  unfolding entryOn resultOn outputAfter
+  unfolding soundOn resultOn outputAfter
   shown-fits =
       omega (arith, ap (λ (y : EntryResult). y .shown) e, simp length-append at (ap (λ (y : EntryResult). length (y .output)) e))
 
-  answer-called : length output ≡ 1024 → answerOf x ≡ called t rest .answer
-  unfolding entryOn resultOn outputAfter called
-  answer-called h = rw (e, h, take-at)
+  answer-called : Sound t 1024 → answerOf x ≡ called t rest .answer
+  unfolding soundOn resultOn outputAfter called callOn
+  answer-called h = rw (e, h .sizes, h .box, take-at)
 
-  tables-called : length output ≡ 1024 → x .tables ≡ called t rest .tables
-  unfolding entryOn resultOn called
-  tables-called h = rw (e, h)
+  tables-called : Sound t 1024 → x .tables ≡ called t rest .tables
+  unfolding soundOn resultOn called callOn
+  tables-called h = rw (e, h .sizes, h .box)
 
   -- the line of the answer stands at the front of a buffer
-  pub turn-called : {before after : List ℕ} {size : ℕ} → length output ≡ 1024 → AtFront (line (answerOf x)) before after size
+  pub turn-called : {before after : List ℕ} {size : ℕ} → Sound t 1024 → AtFront (line (answerOf x)) before after size
       → TurnMade (record { tables = x .tables; text = take size after; used = x .used; last = lastCode (x .code) }) (turn t rest) before after size
   unfolding turn stops
   turn-called {before} {after} {size} h f =

@@ -2,6 +2,7 @@
 ghost use mathlib.Core.Path.{_≡_};
 ghost use Prim.Native.Nat.{_+_, _*_, _≤_};
 ghost use lib.ListN.{length, take};
+ghost use Rattle.ideal.specs.Layouts.{Sound};
 ghost use Rattle.soundness.specs.Parts.{tablesOf};
 ghost use Rattle.sheet.specs.Sheet.{line};
 ghost use Rattle.sheet.specs.Stored.{AtFront};
@@ -40,7 +41,7 @@ fn write_answer(
     write_line(code, number, used, &output[..n], out)
 }
 
-// The record at the front of rest, and its line at the front of out. A line has at most 2,113 bytes.
+// The record at the front of rest on a sound box, and its line at the front of out. A line has at most 2,113 bytes.
 pub fn next_line(
     b: BoxRecord,
     log: LogTable,
@@ -53,7 +54,10 @@ pub fn next_line(
     rest: &[u8],
     out: &mut [u8],
 ) -> NextLine
-    requires { ⌜ (length (now output) ≡ 1024) × (2113 ≤ length (now out)) ⌝ }
+    requires { ⌜
+        Sound (tablesOf b log escrow (now heaps) (now shared) (now «log_values») (now «escrow_values»)) 1024
+        × (length (now output) ≡ 1024) × (2113 ≤ length (now out))
+        ⌝ }
     ensures { λ r. ⌜
         TurnMade
         (turnOf r (now (heaps .exit)) (now (shared .exit)) (now («log_values» .exit)) (now («escrow_values» .exit)) (now (out .exit)))
@@ -62,7 +66,7 @@ pub fn next_line(
         (now (out .entry)) (now (out .exit)) (r .size)
         ⌝ }
 {
-    let reply = calls::call(
+    let reply = calls::call_sound(
         b,
         log,
         escrow,

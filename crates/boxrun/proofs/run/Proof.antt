@@ -69,7 +69,9 @@ slice-aggregate-next-line-6 : tie.Need-slice-aggregate-next-line-6 Inv-loop μ-l
 slice-aggregate-next-line-6 c = search needs
 
 next-line-requires : tie.Need-next-line-requires Inv-loop μ-loop
-next-line-requires c κs = search needs
+next-line-requires c κs =
+    let test = c .before .before .before .before .before .before .before in
+    (test .before .loop .inv .0 .sound, search needs, search needs)
 
 array-share-prefix-line : tie.Need-array-share-prefix-line Inv-loop μ-loop
 array-share-prefix-line c =

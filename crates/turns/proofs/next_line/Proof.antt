@@ -1,18 +1,22 @@
 use native.Mathlib.Omega.{arith}
+use mathlib.Core.Path.{sym, subst}
+use Rattle.ideal.specs.Layouts.{Sound}
 use Rattle.turns.proofs.NextTurn.{shown-fits, turn-called}
 use borrow.Author.Needs.{needs}
 use Rattle.turns.proofs.next_line.Statement.{statement}
 use Rattle.turns.proofs.next_line.Tie as tie
 
-call-requires : tie.Need-call-requires
-call-requires c κs = search needs
+call-sound-requires : tie.Need-call-sound-requires
+call-sound-requires c κs =
+    let start = c .before .before .before .before .before .before .before .before .before .before .before .before in
+    subst (Sound _) (sym (start .pre .1)) (start .pre .0)
 
 write-answer-requires : tie.Need-write-answer-requires
 write-answer-requires c κs =
     let called = c .before .before .before .before .before .before .before .before .before .before .before .before in
     let start = called .before .before .before .before .before .before .before .before .before .before .before .before .before in
-    let fits = shown-fits _ _ _ _ (called .call .ensures) in
-    (fits, omega (arith, fits, start .pre .0, start .pre .1))
+    let fits = shown-fits _ _ _ _ (called .call-sound .ensures) in
+    (fits, omega (arith, fits, start .pre .1, start .pre .2))
 
 is-last-requires : tie.Need-is-last-requires
 is-last-requires c κs = search needs
@@ -40,13 +44,13 @@ returns c =
     let written = c .before .before .before in
     let called = written .before .before .before .before .before .before .before .before .before .before .before .before .before in
     let start = called .before .before .before .before .before .before .before .before .before .before .before .before .before in
-    rw (c .is-last .ensures) (turn-called _ _ _ _ (called .call .ensures) (start .pre .0) (written .write-answer .ensures))
+    rw (c .is-last .ensures) (turn-called _ _ _ _ (called .call-sound .ensures) (start .pre .0) (written .write-answer .ensures))
 
 pub next-line-spec : {M : Type 1} → statement M
 next-line-spec =
     tie.close
     (tie.spec
-    call-requires
+    call-sound-requires
     write-answer-requires
     is-last-requires
     same-length
