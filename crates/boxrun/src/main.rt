@@ -1,6 +1,6 @@
 // Runs a script of records from standard input on a fresh box, and prints its answer sheet.
 ghost use mathlib.Core.Path.{_≡_};
-ghost use Prim.Native.Nat.{_+_, _<_, _≤_, min};
+ghost use Prim.Native.Nat.{_≤_};
 ghost use lib.ListN.{length, take};
 ghost use Rattle.sheet.specs.Sheet.{header, sheet};
 ghost use Rattle.boxrun.specs.Outcomes.{Within, Whole};
@@ -45,18 +45,8 @@ fn print(bytes: &[u8]) -> Outcome
     }
 }
 
-// Where the next record begins. Past the end nothing is left.
-fn next_place(at: usize, used: usize, end: usize) -> usize
-    requires { ⌜ at < end ⌝ }
-    ensures { λ r. ⌜ r ≡ min (at + used) end ⌝ }
-{
-    if used > end - at {
-        return end;
-    }
-    at + used
-}
-
-// A line a record after the header, until no input is left, after a line that is the last, or where writing fails.
+// The lines after the header, 65,536 bytes of them or fewer at a time, until no input is left, after a line that is the last,
+// or where writing fails.
 // `printed` counts the header.
 fn run(script: &[u8], printed: usize) -> Outcome
     requires { ⌜ (length (now script) ≤ 65536) × (printed ≡ length header) ⌝ }
@@ -70,11 +60,11 @@ fn run(script: &[u8], printed: usize) -> Outcome
     let mut log_values = [0u8; 4096];
     let mut escrow_values = [0u8; 4096];
     let mut output = [0u8; 1024];
-    let mut line = [0u8; 2113];
+    let mut text = [0u8; 65536];
     let mut total = printed;
     let mut at: usize = 0;
     while at < script.len() {
-        let next = turns::next_line(
+        let lines = turns::next_lines(
             b,
             log,
             escrow,
@@ -84,21 +74,20 @@ fn run(script: &[u8], printed: usize) -> Outcome
             &mut escrow_values,
             &mut output,
             &script[at..],
-            &mut line,
+            &mut text,
         );
-        let size = next.size;
-        let Outcome::Bytes(n) = print(&line[..size]) else {
+        b = lines.held;
+        log = lines.log;
+        escrow = lines.escrow;
+        let size = lines.size;
+        let Outcome::Bytes(n) = print(&text[..size]) else {
             return Outcome::Failed;
         };
         total += n;
-        if next.last {
+        if lines.last {
             return Outcome::Bytes(total);
         }
-        let reply = next.reply;
-        b = reply.held;
-        log = reply.log;
-        escrow = reply.escrow;
-        at = next_place(at, reply.used, script.len());
+        at += lines.used;
     }
     Outcome::Bytes(total)
 }

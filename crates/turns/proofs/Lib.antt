@@ -1,1 +1,2 @@
 mod NextTurn
+mod OneByOne

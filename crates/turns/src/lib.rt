@@ -1,13 +1,13 @@
-// One record of a script, run on the box, and its line.
+// The records of a script, run on a sound box, and their lines.
 ghost use mathlib.Core.Path.{_≡_};
-ghost use Prim.Native.Nat.{_+_, _*_, _≤_};
+ghost use Prim.Native.Nat.{_+_, _*_, _<_, _≤_, min};
 ghost use lib.ListN.{length, take};
 ghost use Rattle.ideal.specs.Layouts.{Sound};
 ghost use Rattle.soundness.specs.Parts.{tablesOf};
 ghost use Rattle.sheet.specs.Sheet.{line};
 ghost use Rattle.sheet.specs.Stored.{AtFront};
 ghost use Rattle.sheet.specs.Turns.{turn};
-ghost use Rattle.turns.specs.Next.{turnOf, TurnMade};
+ghost use Rattle.turns.specs.Next.{turnOf, TurnMade, turnsOf, TurnsMade};
 use calls::Reply;
 use ideal::BoxRecord;
 use sheet::is_last;
@@ -18,6 +18,16 @@ use state::LogTable;
 // What a turn gives: the reply, how many bytes the line has, and whether it is the last.
 pub struct NextLine {
     pub reply: Reply,
+    pub size: usize,
+    pub last: bool,
+}
+
+// What turns give, one after another: the box, the bytes used, how many bytes the lines have, and whether they end the sheet.
+pub struct Lines {
+    pub held: BoxRecord,
+    pub log: LogTable,
+    pub escrow: EscrowTable,
+    pub used: usize,
     pub size: usize,
     pub last: bool,
 }
@@ -89,5 +99,82 @@ pub fn next_line(
         reply,
         size,
         last: is_last(reply.code),
+    }
+}
+
+// Where the next record begins. Past the end nothing is left.
+fn next_place(at: usize, used: usize, end: usize) -> usize
+    requires { ⌜ at < end ⌝ }
+    ensures { λ r. ⌜ r ≡ min (at + used) end ⌝ }
+{
+    if used > end - at {
+        return end;
+    }
+    at + used
+}
+
+// Lines at the front of out, a line a record, until no input is left, after a line that is the last, or where the next
+// line might not fit.
+pub fn next_lines(
+    mut b: BoxRecord,
+    mut log: LogTable,
+    mut escrow: EscrowTable,
+    heaps: &mut [u8],
+    shared: &mut [u8],
+    log_values: &mut [u8],
+    escrow_values: &mut [u8],
+    output: &mut [u8],
+    rest: &[u8],
+    out: &mut [u8],
+) -> Lines
+    requires { ⌜
+        Sound (tablesOf b log escrow (now heaps) (now shared) (now «log_values») (now «escrow_values»)) 1024
+        × (length (now output) ≡ 1024) × (2113 ≤ length (now out))
+        ⌝ }
+    ensures { λ r. ⌜
+        TurnsMade
+        (turnsOf r (now (heaps .exit)) (now (shared .exit)) (now («log_values» .exit)) (now («escrow_values» .exit)) (now (out .exit)))
+        (tablesOf b log escrow (now (heaps .entry)) (now (shared .entry)) (now («log_values» .entry)) (now («escrow_values» .entry)))
+        (now (rest .entry))
+        × (r .size ≤ length (now (out .exit)))
+        ⌝ }
+{
+    let mut used: usize = 0;
+    let mut size: usize = 0;
+    let mut last = false;
+    while used < rest.len() {
+        if out.len() - size < 2113 {
+            break;
+        }
+        let next = next_line(
+            b,
+            log,
+            escrow,
+            heaps,
+            shared,
+            log_values,
+            escrow_values,
+            output,
+            &rest[used..],
+            &mut out[size..],
+        );
+        let reply = next.reply;
+        b = reply.held;
+        log = reply.log;
+        escrow = reply.escrow;
+        used = next_place(used, reply.used, rest.len());
+        size += next.size;
+        last = next.last;
+        if last {
+            break;
+        }
+    }
+    Lines {
+        held: b,
+        log,
+        escrow,
+        used,
+        size,
+        last,
     }
 }
