@@ -1,11 +1,11 @@
 -- What the program's loop keeps, from buffer to buffer.
 use Prim.Native.Nat.{ℕ, _+_, _*_, _-_, _^_, _≤_, _<_}
-use mathlib.Core.Path.{_≡_, ap, subst, _∙_}
+use mathlib.Core.Path.{_≡_, ap, sym, subst, _∙_}
 use mathlib.Core.Bool.{true, false}
 use mathlib.Core.List.{List}
 use native.Mathlib.Omega.{arith}
 use lib.ListN.{length, take, drop, replicate, length-append, length-drop}
-use lib.Seq.{length-take-le, take-length, drop-drop}
+use lib.Seq.{take-length, drop-drop}
 use borrow.Author.Tests.{lt-ltb, le-ltb}
 use Rattle.ideal.specs.declared.BoxRecord.{BoxRecord}
 use Rattle.ideal.specs.Tables.{Tables, freshTables}
@@ -16,7 +16,8 @@ use Rattle.state.specs.declared.EscrowTable.{EscrowTable}
 use Rattle.soundness.specs.Parts.{tablesOf}
 use Rattle.sheet.specs.Sheet.{bytesOf, header, tooLong, linesFrom, sheet}
 use Rattle.sheet.specs.Turns.{Turn}
-use Rattle.turns.specs.Next.{linesLeft, TurnsMade}
+use Rattle.turns.specs.Next.{TurnMade, turns, linesLeft, Writes}
+use Rattle.turns.proofs.OneByOne.{turns-write, turns-go-on}
 
 -- on a sound box before the script's rest from `at` on, the lines that are left make the sheet whole
 pub record Going (script : List ℕ) (t : Tables) (at total : ℕ) : Type 0 where
@@ -37,9 +38,9 @@ begins script head b log escrow e1 e2 e3 h e =
       small = rw e (omega arith);
     })
 
--- lines are no longer than their buffer
-pub short : (text : List ℕ) (size : ℕ) {n : ℕ} → n ≡ length (take size text) → size ≤ length text → length text ≡ 65536 → n ≤ 65536
-short text size e h k = omega (arith, length-take-le size text h)
+pub size-fits : {made defined : Turn} {before after : List ℕ} {size : ℕ} → TurnMade made defined before after size → size ≤ length after
+size-fits {defined = defined} {before} {after} {size} m =
+    omega (arith, m .front .count, ap length (m .front .bytes), length-append (defined .text) (drop size before))
 
 -- the sheet of too long a script
 pub too-long : (script : List ℕ) → 65536 < length script → length (sheet script) ≡ length header + length tooLong
@@ -61,26 +62,36 @@ module _ {script : List ℕ} {t : Tables} {at total : ℕ} (g : Going script t a
     room h k = omega (arith, g .small)
 
     -- turns that the code made on `&script[at..]`, and the n bytes of their lines
-    module _ {made : Turn} {n : ℕ} (on-part : TurnsMade made t (take (length script - at) (drop at script))) (count : n ≡ length (made .text)) where
-      turns : TurnsMade made t (drop at script)
-      turns = subst (TurnsMade made t) (to-the-end script at) on-part
+    module _ {made : Turn} {before after : List ℕ} {size n : ℕ}
+        (turned : TurnMade made (turns (length before) t (take (length script - at) (drop at script))) before after size)
+        (room-is : length before ≡ 65536) (count : n ≡ length (made .text)) where
+      same : made ≡ turns (length before) t (drop at script)
+      same = turned .same ∙ ap (turns (length before) t) (to-the-end script at)
+
+      written : Writes made t (drop at script)
+      written = subst (λ (a : Turn). Writes a t (drop at script)) (sym same) (turns-write (length before) t (drop at script) (g .sound))
+
+      -- lines are no longer than their buffer
+      pub short : n ≤ 65536
+      short = omega (arith, turned .front .count, turned .front .fits, ap (λ (a : Turn). length (a .text)) (turned .same))
 
       pub stopped-here : made .last ≡ true → total + n ≡ length (sheet script)
       stopped-here e =
-          omega (arith, g .whole, count, simp length-append at (ap length (rw e at (turns .lines))))
+          omega (arith, g .whole, count, simp length-append at (ap length (rw e at (written .lines))))
 
       pub within-script : at + made .used ≤ length script
-      within-script = omega (arith, turns .within, length-drop at script)
+      within-script = omega (arith, written .within, length-drop at script)
 
       pub further : made .last ≡ false → at < at + made .used
-      further e = omega (arith, turns .some (omega (arith, length-drop at script)) e)
+      further e =
+          omega (arith, turns-go-on (length before) t (drop at script) (g .sound) (omega (arith, length-drop at script)) (omega arith) (subst (λ (a : Turn). a .last ≡ false) same e), ap (λ (a : Turn). a .used) same)
 
-      pub went-further : made .last ≡ false → n ≤ 65536 → Going script (made .tables) (at + made .used) (total + n)
-      went-further e h =
+      pub went-further : made .last ≡ false → Going script (made .tables) (at + made .used) (total + n)
+      went-further e =
           record {
-            sound = turns .sound;
+            sound = written .sound;
             whole =
                 rw (← drop-drop (made .used) at script)
-                (omega (arith, g .whole, count, ap length (rw e at (turns .lines)) ∙ length-append (made .text) (linesLeft (made .tables) (drop (made .used) (drop at script)))));
-            small = omega (arith, g .small, further e);
+                (omega (arith, g .whole, count, ap length (rw e at (written .lines)) ∙ length-append (made .text) (linesLeft (made .tables) (drop (made .used) (drop at script)))));
+            small = omega (arith, g .small, further e, short);
           }

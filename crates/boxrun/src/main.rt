@@ -59,7 +59,6 @@ fn run(script: &[u8], printed: usize) -> Outcome
     let mut shared = [0u8; 1024];
     let mut log_values = [0u8; 4096];
     let mut escrow_values = [0u8; 4096];
-    let mut output = [0u8; 1024];
     let mut text = [0u8; 65536];
     let mut total = printed;
     let mut at: usize = 0;
@@ -72,7 +71,6 @@ fn run(script: &[u8], printed: usize) -> Outcome
             &mut shared,
             &mut log_values,
             &mut escrow_values,
-            &mut output,
             &script[at..],
             &mut text,
         );

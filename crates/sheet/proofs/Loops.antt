@@ -16,7 +16,7 @@ use Rattle.ideal.specs.Layouts.{Sound}
 use Rattle.ideal.proofs.Bools.{by-cases, clash}
 use Rattle.ideal.proofs.Laid.{stays-sound, fresh-box}
 use Rattle.sheet.specs.Sheet.{stops, called, linesFrom, sheet}
-use Rattle.sheet.specs.Turns.{turn, Loop, nothing-left, stopped, went-on, joined, UsesTwo, NoneMissing, TurnByTurn, LoopEnds, LoopWritesSheet}
+use Rattle.sheet.specs.Turns.{turn, Loop, nothing-left, stopped, went-on, joined, UsesTwo, UsesWithin, NoneMissing, TurnByTurn, LoopEnds, LoopWritesSheet}
 use Rattle.sheet.proofs.Readings.{Ends, last, read-on, read-ends}
 
 -- ---- the bytes used
@@ -26,10 +26,15 @@ unfolding settle accepted refuse refusedAnswer
 settle-used zero s c used = refl
 settle-used (suc n) s c used = refl
 
-reading-uses : (s : State) (r : Reading) → Ends r → stops (onReading s r .answer) ≡ false → 2 ≤ onReading s r .answer .used
+reading-uses : {most : ℕ} (s : State) (r : Reading) → Ends most r → stops (onReading s r .answer) ≡ false → 2 ≤ onReading s r .answer .used
 unfolding onReading refuse refusedAnswer step stops
 reading-uses s (refused code number) (last h) l = clash _ h l
-reading-uses s (whole c used) (read-on h) l = rw (settle-used (refusal s c) s c used) h
+reading-uses s (whole c used) (read-on h k) l = rw (settle-used (refusal s c) s c used) h
+
+reading-within : {most : ℕ} (s : State) (r : Reading) → Ends most r → onReading s r .answer .used ≤ most
+unfolding onReading refuse refusedAnswer step
+reading-within s (refused code number) (last h) = omega arith
+reading-within s (whole c used) (read-on h k) = rw (settle-used (refusal s c) s c used) k
 
 call-on-sound : (t : Tables) (rest : List ℕ) → Sound t 1024 → called t rest ≡ laid (stepOn (stateOf t) rest)
 unfolding called callOn
@@ -41,6 +46,12 @@ uses t rest h =
     subst⁻¹ (λ (r : Result). stops (r .answer) ≡ false → 2 ≤ r .answer .used) (call-on-sound t rest h)
     (reading-uses (stateOf t) (read rest) (read-ends rest))
 
+pub within : UsesWithin
+unfolding turn laid stepOn
+within t rest h =
+    subst⁻¹ (λ (r : Result). r .answer .used ≤ length rest) (call-on-sound t rest h)
+    (reading-within (stateOf t) (read rest) (read-ends rest))
+
 -- ---- no line is missing
 
 pub called-sound : (t : Tables) (rest : List ℕ) → Sound t 1024 → Sound (turn t rest .tables) 1024
@@ -48,7 +59,7 @@ unfolding turn called
 called-sound t rest h = stays-sound t (record { bytes = rest; outputSize = 1024 }) h
 
 -- what is left after a turn that is not the last is shorter
-shorter : (t : Tables) (b : ℕ) (bs : List ℕ) (n : ℕ) → Sound t 1024 → turn t (b ∷ bs) .last ≡ false → length (b ∷ bs) ≤ suc n
+pub shorter : (t : Tables) (b : ℕ) (bs : List ℕ) (n : ℕ) → Sound t 1024 → turn t (b ∷ bs) .last ≡ false → length (b ∷ bs) ≤ suc n
     → length (drop (turn t (b ∷ bs) .used) (b ∷ bs)) ≤ n
 shorter t b bs n h l e = omega (arith, length-drop (turn t (b ∷ bs) .used) (b ∷ bs), uses t (b ∷ bs) h l)
 

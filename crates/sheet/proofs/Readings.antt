@@ -1,4 +1,5 @@
--- What the reader gives: a refusal after which a sheet ends, or a record of 2 bytes at least. Assumes nothing.
+-- What the reader gives: a refusal after which a sheet ends, or a record of 2 bytes at least and no more than there are.
+-- Assumes nothing.
 use Prim.Native.Nat.{ℕ, _+_, _≤_}
 use mathlib.Core.Path.{_≡_, refl}
 use mathlib.Core.Bool.{Bool, true, false, cond}
@@ -13,32 +14,33 @@ use Rattle.record.specs.Read.{Reading, refused, whole, cut, unknown, wrongMap, 
 use Rattle.ideal.proofs.Bools.{by-cases}
 use Rattle.sheet.specs.Sheet.{lastCode}
 
-pub data Ends : Reading → Type 0 where
-  last : {code number : ℕ} → lastCode code ≡ true → Ends (refused code number)
-  read-on : {c : Call} {used : ℕ} → 2 ≤ used → Ends (whole c used)
+-- of a record in at most so many bytes
+pub data Ends (most : ℕ) : Reading → Type 0 where
+  last : {code number : ℕ} → lastCode code ≡ true → Ends most (refused code number)
+  read-on : {c : Call} {used : ℕ} → 2 ≤ used → used ≤ most → Ends most (whole c used)
 
 -- cut, or what follows
-uncut : (b : Bool) (r : Reading) → Ends r → Ends (cond b cut r)
+uncut : {most : ℕ} (b : Bool) (r : Reading) → Ends most r → Ends most (cond b cut r)
 unfolding cut lastCode
 uncut true r h = last refl
 uncut false r h = h
 
 -- what follows a field is no longer than the field with what follows it
-field-ends : (here : Bool) (n : ℕ) (next : ℕ → List ℕ → Reading) (bs : List ℕ)
-    → ((x : ℕ) (rest : List ℕ) → length rest ≤ length bs → Ends (next x rest)) → Ends (field here n next bs)
+field-ends : {most : ℕ} (here : Bool) (n : ℕ) (next : ℕ → List ℕ → Reading) (bs : List ℕ)
+    → ((x : ℕ) (rest : List ℕ) → length rest ≤ length bs → Ends most (next x rest)) → Ends most (field here n next bs)
 unfolding field
 field-ends false n next bs go = go 0 bs (omega arith)
 field-ends true n next bs go =
     uncut (ltb (length bs) n) _ (go (fromLittle (take n bs)) (drop n bs) (omega (arith, length-drop n bs)))
 
-contents-ends : (n : ℕ) (next : List ℕ → List ℕ → Reading) (bs : List ℕ)
-    → ((v rest : List ℕ) → length rest ≤ length bs → Ends (next v rest)) → Ends (contents n next bs)
+contents-ends : {most : ℕ} (n : ℕ) (next : List ℕ → List ℕ → Reading) (bs : List ℕ)
+    → ((v rest : List ℕ) → length rest ≤ length bs → Ends most (next v rest)) → Ends most (contents n next bs)
 unfolding contents
 contents-ends n next bs go = uncut (ltb (length bs) n) _ (go (take n bs) (drop n bs) (omega (arith, length-drop n bs)))
 
-fields-end : (total : ℕ) (k : Kind) (bs : List ℕ) → 2 + length bs ≤ total → Ends (readFields total k bs)
+fields-end : {most : ℕ} (total : ℕ) (k : Kind) (bs : List ℕ) → 2 + length bs ≤ total → total ≤ most → Ends most (readFields total k bs)
 unfolding readFields fields bytesField
-fields-end total k bs h =
+fields-end total k bs h m =
     let map = k .map in
     field-ends (stands map 1) 1 _ bs λ place b1 l1.
     field-ends (stands map 2) 8 _ b1 λ identity b2 l2.
@@ -46,17 +48,17 @@ fields-end total k bs h =
     field-ends (stands map 4) 2 _ b3 λ size b4 l4.
     field-ends (stands map 5) 8 _ b4 λ number b5 l5.
     field-ends (stands map 6) 2 _ b5 λ count b6 l6.
-    contents-ends count _ b6 λ v rest l7. read-on (omega arith)
+    contents-ends count _ b6 λ v rest l7. read-on (omega arith) (omega arith)
 
-kind-ends : (total map : ℕ) (o : Option Kind) (bs : List ℕ) → 2 + length bs ≤ total → Ends (readKind total map o bs)
+kind-ends : {most : ℕ} (total map : ℕ) (o : Option Kind) (bs : List ℕ) → 2 + length bs ≤ total → total ≤ most → Ends most (readKind total map o bs)
 unfolding readKind unknown wrongMap lastCode
-kind-ends total map none bs h = last refl
-kind-ends total map (some k) bs h =
-    by-cases (eqb (k .map) map) (λ e. rw e (fields-end total k bs h)) (λ e. rw e (last refl))
+kind-ends total map none bs h m = last refl
+kind-ends total map (some k) bs h m =
+    by-cases (eqb (k .map) map) (λ e. rw e (fields-end total k bs h m)) (λ e. rw e (last refl))
 
-pub read-ends : (bs : List ℕ) → Ends (read bs)
+pub read-ends : (bs : List ℕ) → Ends (length bs) (read bs)
 unfolding read afterMap cut unknown lastCode
 read-ends [] = last refl
 read-ends (map ∷ []) = by-cases (stands map 0) (λ e. rw e (last refl)) (λ e. rw e (last refl))
 read-ends (map ∷ n ∷ bs) =
-    by-cases (stands map 0) (λ e. rw e (kind-ends _ map (kindOf n) bs (omega arith))) (λ e. rw e (last refl))
+    by-cases (stands map 0) (λ e. rw e (kind-ends _ map (kindOf n) bs (omega arith) (omega arith))) (λ e. rw e (last refl))

@@ -38,6 +38,10 @@ joined (s ∷ ss) = s ++ joined ss
 abbrev pub UsesTwo : Type 0
 UsesTwo = (t : Tables) (rest : List ℕ) → Sound t 1024 → turn t rest .last ≡ false → 2 ≤ turn t rest .used
 
+-- no record uses bytes that are not there
+abbrev pub UsesWithin : Type 0
+UsesWithin = (t : Tables) (rest : List ℕ) → Sound t 1024 → turn t rest .used ≤ length rest
+
 -- no line is missing: from the length of what is left on, a higher count of lines gives the same text
 abbrev pub NoneMissing : Type 0
 NoneMissing = (t : Tables) (rest : List ℕ) (n : ℕ) → Sound t 1024 → length rest ≤ n

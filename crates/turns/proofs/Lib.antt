@@ -1,2 +1,2 @@
 mod NextTurn
-mod OneByOne
+pub mod OneByOne

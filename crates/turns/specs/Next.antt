@@ -1,9 +1,10 @@
 -- What turns of the code leave and give, as turns of the definition.
-use Prim.Native.Nat.{ℕ, _≤_, _<_}
+use Prim.Native.Nat.{ℕ, zero, suc, _+_, _-_, _≤_, _<_}
 use mathlib.Core.Path.{_≡_}
 use mathlib.Core.Bool.{false, cond}
-use mathlib.Core.List.{List, [], _++_}
+use mathlib.Core.List.{List, [], _∷_, _++_}
 use lib.ListN.{length, take, drop}
+use lib.Dec.{ltb}
 use Rattle.ideal.specs.Tables.{Tables}
 use Rattle.ideal.specs.Layouts.{Sound}
 use Rattle.soundness.specs.Parts.{tablesOf}
@@ -11,7 +12,7 @@ use Rattle.turns.specs.declared.NextLine.{NextLine}
 use Rattle.turns.specs.declared.Lines.{Lines}
 use Rattle.sheet.specs.Sheet.{linesFrom}
 use Rattle.sheet.specs.Stored.{AtFront}
-use Rattle.sheet.specs.Turns.{Turn}
+use Rattle.sheet.specs.Turns.{Turn, turn}
 
 abbrev pub turnOf : NextLine → (heaps shared logValues escrowValues out : List ℕ) → Turn
 turnOf r heaps shared logValues escrowValues out =
@@ -22,7 +23,7 @@ turnOf r heaps shared logValues escrowValues out =
       last = r .last;
     }
 
--- a turn of the code is that of the definition, and the bytes beyond its line are unaltered
+-- a turn of the code is that of the definition, and the bytes beyond its text are unaltered
 pub record TurnMade (made defined : Turn) (before after : List ℕ) (size : ℕ) : Type 0 where
   pub same : made ≡ defined
   pub front : AtFront (defined .text) before after size
@@ -38,14 +39,42 @@ turnsOf r heaps shared logValues escrowValues out =
       last = r .last;
     }
 
+abbrev pub noTurn : Tables → Turn
+noTurn t = record { tables = t; text = []; used = 0; last = false }
+
+-- a turn, then others
+abbrev pub followed : Turn → Turn → Turn
+followed a later =
+    record { tables = later .tables; text = a .text ++ later .text; used = a .used + later .used; last = later .last }
+
+-- turns until no input is left, after one that is the last, or where the longest line might not fit in the room that is
+-- left; at most n
+unfoldable pub turnsFrom : (n room : ℕ) → Tables → List ℕ → Turn
+turnsFrom zero room t rest = noTurn t
+turnsFrom (suc n) room t [] = noTurn t
+turnsFrom (suc n) room t (b ∷ bs) =
+    let a = turn t (b ∷ bs) in
+    let later = turnsFrom n (room - length (a .text)) (a .tables) (drop (a .used) (b ∷ bs)) in
+    cond (ltb room 2113) (noTurn t) (cond (a .last) a (followed a later))
+
+-- a turn that is not the last uses a byte at least, so there are no more turns than bytes
+abbrev pub turns : ℕ → Tables → List ℕ → Turn
+turns room t rest = turnsFrom (length rest) room t rest
+
 -- the lines of a sheet from here to its end
 abbrev pub linesLeft : Tables → List ℕ → List ℕ
 linesLeft t rest = linesFrom (length rest) t rest
 
--- turns of the code write the first of those lines, and leave the others to be written: none after a last line
-pub record TurnsMade (made : Turn) (t : Tables) (rest : List ℕ) : Type 0 where
+-- turns write the first of those lines, and leave the others to be written: none after a last line
+pub record Writes (made : Turn) (t : Tables) (rest : List ℕ) : Type 0 where
   pub lines : linesLeft t rest ≡ made .text ++ cond (made .last) [] (linesLeft (made .tables) (drop (made .used) rest))
   pub sound : Sound (made .tables) 1024
   pub within : made .used ≤ length rest
-  -- not nothing
-  pub some : 0 < length rest → made .last ≡ false → 0 < made .used
+
+abbrev pub TurnsWrite : Type 0
+TurnsWrite = (room : ℕ) (t : Tables) (rest : List ℕ) → Sound t 1024 → Writes (turns room t rest) t rest
+
+-- where input is left and the longest line fits, something is written
+abbrev pub TurnsGoOn : Type 0
+TurnsGoOn = (room : ℕ) (t : Tables) (rest : List ℕ) → Sound t 1024 → 0 < length rest → 2113 ≤ room → turns room t rest .last ≡ false
+    → 0 < turns room t rest .used

@@ -1,13 +1,13 @@
 // The records of a script, run on a sound box, and their lines.
 ghost use mathlib.Core.Path.{_≡_};
-ghost use Prim.Native.Nat.{_+_, _*_, _<_, _≤_, min};
+ghost use Prim.Native.Nat.{_+_, _*_, _≤_};
 ghost use lib.ListN.{length, take};
 ghost use Rattle.ideal.specs.Layouts.{Sound};
 ghost use Rattle.soundness.specs.Parts.{tablesOf};
 ghost use Rattle.sheet.specs.Sheet.{line};
 ghost use Rattle.sheet.specs.Stored.{AtFront};
 ghost use Rattle.sheet.specs.Turns.{turn};
-ghost use Rattle.turns.specs.Next.{turnOf, TurnMade, turnsOf, TurnsMade};
+ghost use Rattle.turns.specs.Next.{turnOf, turnsOf, TurnMade, turns};
 use calls::Reply;
 use ideal::BoxRecord;
 use sheet::is_last;
@@ -60,13 +60,12 @@ pub fn next_line(
     shared: &mut [u8],
     log_values: &mut [u8],
     escrow_values: &mut [u8],
-    output: &mut [u8],
     rest: &[u8],
     out: &mut [u8],
 ) -> NextLine
     requires { ⌜
         Sound (tablesOf b log escrow (now heaps) (now shared) (now «log_values») (now «escrow_values»)) 1024
-        × (length (now output) ≡ 1024) × (2113 ≤ length (now out))
+        × (2113 ≤ length (now out))
         ⌝ }
     ensures { λ r. ⌜
         TurnMade
@@ -76,6 +75,7 @@ pub fn next_line(
         (now (out .entry)) (now (out .exit)) (r .size)
         ⌝ }
 {
+    let mut output = [0u8; 1024];
     let reply = calls::call_sound(
         b,
         log,
@@ -84,7 +84,7 @@ pub fn next_line(
         shared,
         log_values,
         escrow_values,
-        output,
+        &mut output,
         rest,
     );
     let size = write_answer(
@@ -92,7 +92,7 @@ pub fn next_line(
         reply.number,
         reply.used,
         reply.shown,
-        output,
+        &output,
         out,
     );
     NextLine {
@@ -100,17 +100,6 @@ pub fn next_line(
         size,
         last: is_last(reply.code),
     }
-}
-
-// Where the next record begins. Past the end nothing is left.
-fn next_place(at: usize, used: usize, end: usize) -> usize
-    requires { ⌜ at < end ⌝ }
-    ensures { λ r. ⌜ r ≡ min (at + used) end ⌝ }
-{
-    if used > end - at {
-        return end;
-    }
-    at + used
 }
 
 // Lines at the front of out, a line a record, until no input is left, after a line that is the last, or where the next
@@ -123,20 +112,20 @@ pub fn next_lines(
     shared: &mut [u8],
     log_values: &mut [u8],
     escrow_values: &mut [u8],
-    output: &mut [u8],
     rest: &[u8],
     out: &mut [u8],
 ) -> Lines
     requires { ⌜
         Sound (tablesOf b log escrow (now heaps) (now shared) (now «log_values») (now «escrow_values»)) 1024
-        × (length (now output) ≡ 1024) × (2113 ≤ length (now out))
+        × (2113 ≤ length (now out))
         ⌝ }
     ensures { λ r. ⌜
-        TurnsMade
+        TurnMade
         (turnsOf r (now (heaps .exit)) (now (shared .exit)) (now («log_values» .exit)) (now («escrow_values» .exit)) (now (out .exit)))
+        (turns (length (now (out .entry)))
         (tablesOf b log escrow (now (heaps .entry)) (now (shared .entry)) (now («log_values» .entry)) (now («escrow_values» .entry)))
-        (now (rest .entry))
-        × (r .size ≤ length (now (out .exit)))
+        (now (rest .entry)))
+        (now (out .entry)) (now (out .exit)) (r .size)
         ⌝ }
 {
     let mut used: usize = 0;
@@ -154,7 +143,6 @@ pub fn next_lines(
             shared,
             log_values,
             escrow_values,
-            output,
             &rest[used..],
             &mut out[size..],
         );
@@ -162,7 +150,7 @@ pub fn next_lines(
         b = reply.held;
         log = reply.log;
         escrow = reply.escrow;
-        used = next_place(used, reply.used, rest.len());
+        used += reply.used;
         size += next.size;
         last = next.last;
         if last {

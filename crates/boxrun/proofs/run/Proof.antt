@@ -5,17 +5,17 @@ use mathlib.Core.Path.{_≡_, sym}
 use lib.Seq.{length-take-le}
 use lib.ListN.{length}
 use Rattle.soundness.specs.Parts.{tablesOf}
-use Rattle.boxrun.proofs.Going.{Going, begins, done, short, room, stopped-here, within-script, further, went-further}
+use Rattle.boxrun.proofs.Going.{Going, begins, done, size-fits, room, short, stopped-here, within-script, further, went-further}
 use Rattle.boxrun.proofs.run.Statement.{statement}
 use Rattle.boxrun.proofs.run.Tie as tie
 
 abbrev Inv-loop : tie.InvT-loop
-Inv-loop script printed b₀ log₀ escrow₀ heaps₀ shared₀ log-values₀ escrow-values₀ output₀ text₀ total₀ at₀ b log escrow heaps shared log-values escrow-values output text total at =
+Inv-loop script printed b₀ log₀ escrow₀ heaps₀ shared₀ log-values₀ escrow-values₀ text₀ total₀ at₀ b log escrow heaps shared log-values escrow-values text total at =
     Going script (tablesOf b log escrow heaps shared log-values escrow-values) at total × (at ≤ length script) × (4096 ≡ length heaps) × (1024 ≡ length shared) × (4096 ≡ length log-values) × (4096 ≡ length escrow-values)
-    × (1024 ≡ length output) × (65536 ≡ length text)
+    × (65536 ≡ length text)
 
 abbrev μ-loop : tie.MeasureT-loop
-μ-loop script printed b₀ log₀ escrow₀ heaps₀ shared₀ log-values₀ escrow-values₀ output₀ text₀ total₀ at₀ b log escrow heaps shared log-values escrow-values output text total at =
+μ-loop script printed b₀ log₀ escrow₀ heaps₀ shared₀ log-values₀ escrow-values₀ text₀ total₀ at₀ b log escrow heaps shared log-values escrow-values text total at =
     length script - at
 
 fresh-record-requires : tie.Need-fresh-record-requires Inv-loop μ-loop
@@ -31,7 +31,6 @@ loop-holds : tie.Need-loop-holds Inv-loop μ-loop
 loop-holds c = (
   begins (c .before .before .before .before .args .script .now) (c .before .before .before .before .args .printed) _ _ _ (c .before .before .fresh-record .ensures) (c .before .fresh-log .ensures)
       (c .fresh-escrow .ensures) (c .before .before .before .before .pre .0) (c .before .before .before .before .pre .1),
-  search needs,
   search needs,
   search needs,
   search needs,
@@ -64,20 +63,17 @@ part-next-lines-start c = search needs
 part-next-lines-end : tie.Need-part-next-lines-end Inv-loop μ-loop
 part-next-lines-end c = search needs
 
-slice-aggregate-next-lines-6 : tie.Need-slice-aggregate-next-lines-6 Inv-loop μ-loop
-slice-aggregate-next-lines-6 c = search needs
-
 next-lines-requires : tie.Need-next-lines-requires Inv-loop μ-loop
 next-lines-requires c κs =
-    (c .before .before .before .before .before .before .before .before .loop .inv .0 .sound, search needs, search needs)
+    (c .before .before .before .before .before .before .before .loop .inv .0 .sound, search needs)
 
 array-share-prefix-text : tie.Need-array-share-prefix-text Inv-loop μ-loop
 array-share-prefix-text c =
-    omega (arith, c .before .before .before .before .before .before .before .before .before .next-lines .ensures .1, c .before .before .before .text2 .given)
+    omega (arith, size-fits (c .before .before .before .before .before .before .before .before .next-lines .ensures), c .before .before .before .text2 .given)
 
 slice-aggregate-print : tie.Need-slice-aggregate-print Inv-loop μ-loop
 slice-aggregate-print c =
-    sym (length-take-le _ _ (c .before .before .before .before .before .before .before .before .before .before .next-lines .ensures .1))
+    sym (length-take-le _ _ (size-fits (c .before .before .before .before .before .before .before .before .before .next-lines .ensures)))
 
 print-requires : tie.Need-print-requires Inv-loop μ-loop
 print-requires c κs = search needs
@@ -93,38 +89,44 @@ returns c = search needs
 
 add-total : tie.Need-add-total Inv-loop μ-loop
 add-total c =
-    let kept = c .before .before .before .before .before .before .before .before .before .before .before .before .before .before .before .before .before .before .before .before .before .before .before .loop .inv in
-    let made = c .before .before .before .before .before .before .before .before .before .before .before .before .before .before .next-lines .ensures in
+    let kept = c .before .before .before .before .before .before .before .before .before .before .before .before .before .before .before .before .before .before .before .before .before .loop .inv in
+    let left = c .before .before .before .before .before .before .before .before .before .before .before .before .before .before .before .before .before .before .before .before .loop-test .taken in
+    let made = c .before .before .before .before .before .before .before .before .before .before .before .before .before .next-lines .ensures in
     let size = rw (c .before .n .given .1) at (c .before .before .before .print .ensures) in
-    record { fits = room (kept .0) (c .before .before .before .before .before .before .before .before .before .before .before .before .before .before .before .before .before .before .before .before .before .before .loop-test .taken) (c .before .before .before .before .before .before .before .before .before .before .before .before .before .before .before .before .before .before .before .before .before .before .before .before .before .before .before .before .pre .0) (short _ _ size (made .1) (omega (arith, c .before .before .before .before .before .before .before .before .text2 .given, kept .7))) }
+    record { fits = room (kept .0) left (c .before .before .before .before .before .before .before .before .before .before .before .before .before .before .before .before .before .before .before .before .before .before .before .before .before .before .pre .0) (short (kept .0) left made (sym (kept .6)) size) }
 
 returns-2 : tie.Need-returns-2 Inv-loop μ-loop
 returns-2 c =
+    let kept = c .before .before .before .before .before .before .before .before .before .before .before .before .before .before .before .before .before .before .before .before .before .before .loop .inv in
+    let left = c .before .before .before .before .before .before .before .before .before .before .before .before .before .before .before .before .before .before .before .before .before .loop-test .taken in
+    let made = c .before .before .before .before .before .before .before .before .before .before .before .before .before .before .next-lines .ensures in
     let size = rw (c .before .before .n .given .1) at (c .before .before .before .before .print .ensures) in
-    stopped-here (c .before .before .before .before .before .before .before .before .before .before .before .before .before .before .before .before .before .before .before .before .before .before .before .before .loop .inv .0) (c .before .before .before .before .before .before .before .before .before .before .before .before .before .before .before .before .before .before .before .before .before .before .before .loop-test .taken) (c .before .before .before .before .before .before .before .before .before .before .before .before .before .before .before .next-lines .ensures .0) size (c .if1 .taken)
+    stopped-here (kept .0) left made (sym (kept .6)) size (c .if1 .taken)
 
 add-at : tie.Need-add-at Inv-loop μ-loop
 add-at c =
+    let kept = c .before .before .before .before .before .before .before .before .before .before .before .before .before .before .before .before .before .before .before .before .before .before .before .loop .inv in
+    let left = c .before .before .before .before .before .before .before .before .before .before .before .before .before .before .before .before .before .before .before .before .before .before .loop-test .taken in
+    let made = c .before .before .before .before .before .before .before .before .before .before .before .before .before .before .before .next-lines .ensures in
     let size = rw (c .before .before .before .n .given .1) at (c .before .before .before .before .before .print .ensures) in
-    let within = within-script (c .before .before .before .before .before .before .before .before .before .before .before .before .before .before .before .before .before .before .before .before .before .before .before .before .before .loop .inv .0) (c .before .before .before .before .before .before .before .before .before .before .before .before .before .before .before .before .before .before .before .before .before .before .before .before .loop-test .taken) (c .before .before .before .before .before .before .before .before .before .before .before .before .before .before .before .before .next-lines .ensures .0) size in
-    record { fits = omega (arith, within, c .before .before .before .before .before .before .before .before .before .before .before .before .before .before .before .before .before .before .before .before .before .before .before .before .before .before .before .before .before .before .pre .0) }
+    record { fits = omega (arith, within-script (kept .0) left made (sym (kept .6)) size, c .before .before .before .before .before .before .before .before .before .before .before .before .before .before .before .before .before .before .before .before .before .before .before .before .before .before .before .before .pre .0) }
 
 loop-less : tie.Need-loop-less Inv-loop μ-loop
 loop-less c =
+    let kept = c .before .before .before .before .before .before .before .before .before .before .before .before .before .before .before .before .before .before .before .before .before .before .before .loop .inv in
+    let left = c .before .before .before .before .before .before .before .before .before .before .before .before .before .before .before .before .before .before .before .before .before .before .loop-test .taken in
+    let made = c .before .before .before .before .before .before .before .before .before .before .before .before .before .before .before .next-lines .ensures in
     let size = rw (c .before .before .before .n .given .1) at (c .before .before .before .before .before .print .ensures) in
-    let kept = c .before .before .before .before .before .before .before .before .before .before .before .before .before .before .before .before .before .before .before .before .before .before .before .before .before .loop .inv in
-    let within = within-script (kept .0) (c .before .before .before .before .before .before .before .before .before .before .before .before .before .before .before .before .before .before .before .before .before .before .before .before .loop-test .taken) (c .before .before .before .before .before .before .before .before .before .before .before .before .before .before .before .before .next-lines .ensures .0) size in
-    omega (arith, within, further (kept .0) (c .before .before .before .before .before .before .before .before .before .before .before .before .before .before .before .before .before .before .before .before .before .before .before .before .loop-test .taken) (c .before .before .before .before .before .before .before .before .before .before .before .before .before .before .before .before .next-lines .ensures .0) size (c .before .if1 .left))
+    omega (arith, within-script (kept .0) left made (sym (kept .6)) size, further (kept .0) left made (sym (kept .6)) size (c .before .if1 .left))
 
 loop-again : tie.Need-loop-again Inv-loop μ-loop
 loop-again c =
-    let size = rw (c .before .before .before .n .given .1) at (c .before .before .before .before .before .print .ensures) in
-    let kept = c .before .before .before .before .before .before .before .before .before .before .before .before .before .before .before .before .before .before .before .before .before .before .before .before .before .loop .inv in
-    let made = c .before .before .before .before .before .before .before .before .before .before .before .before .before .before .before .before .next-lines .ensures in
-    let line = short _ _ size (made .1) (omega (arith, c .before .before .before .before .before .before .before .before .before .before .text2 .given, kept .7)) in (
-      went-further (kept .0) (c .before .before .before .before .before .before .before .before .before .before .before .before .before .before .before .before .before .before .before .before .before .before .before .before .loop-test .taken) (made .0) size (c .before .if1 .left) line,
-      within-script (kept .0) (c .before .before .before .before .before .before .before .before .before .before .before .before .before .before .before .before .before .before .before .before .before .before .before .before .loop-test .taken) (made .0) size,
-      search needs,
+    let kept = c .before .before .before .before .before .before .before .before .before .before .before .before .before .before .before .before .before .before .before .before .before .before .before .loop .inv in
+    let left = c .before .before .before .before .before .before .before .before .before .before .before .before .before .before .before .before .before .before .before .before .before .before .loop-test .taken in
+    let made = c .before .before .before .before .before .before .before .before .before .before .before .before .before .before .before .next-lines .ensures in
+    let size = rw (c .before .before .before .n .given .1) at (c .before .before .before .before .before .print .ensures) in (
+      went-further (kept .0) left made (sym (kept .6)) size (c .before .if1 .left),
+      within-script (kept .0) left made (sym (kept .6)) size,
       search needs,
       search needs,
       search needs,
@@ -150,11 +152,10 @@ run-spec =
     slice-aggregate-next-lines-2
     slice-aggregate-next-lines-3
     slice-aggregate-next-lines-4
-    slice-aggregate-next-lines-5
     sub-next-lines
     part-next-lines-start
     part-next-lines-end
-    slice-aggregate-next-lines-6
+    slice-aggregate-next-lines-5
     next-lines-requires
     array-share-prefix-text
     slice-aggregate-print
