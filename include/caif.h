@@ -52,11 +52,11 @@ enum caif_kind {
 };
 
 /* Codes. A refusal has number 0, shows nothing and alters nothing. Where conditions of several hold, the order is
- * 15; then those of the reader (1, 2, 3); then rising numbers. */
+ * 15; then empty record 1, bit 0 of the map down 2, no kind byte 1, kind 2, map 3, cut field 1; then rising numbers. */
 enum caif_code {
     CAIF_ACCEPTED = 0,
     CAIF_CUT = 1,            /* the record ends before a field does, or is empty */
-    CAIF_UNKNOWN_KIND = 2,   /* the record has no kind, or one that is not of the thirteen */
+    CAIF_UNKNOWN_KIND = 2,   /* bit 0 of the map is down, or the kind is not one of the thirteen */
     CAIF_WRONG_MAP = 3,      /* the map is not the kind's */
     CAIF_NONE_RUNS = 4,      /* yield, exit, heap write, heap read, attest, protect, retrieve */
     CAIF_ONE_RUNS = 5,       /* start */
@@ -65,7 +65,7 @@ enum caif_code {
     CAIF_NOT_RUNNING = 8,    /* the place is not the running one: heap write, heap read */
     CAIF_IDENTITY_ZERO = 9,  /* create, check, protect, retrieve */
     CAIF_NO_ROW = 10,        /* no such escrow row: retrieve */
-    CAIF_BEYOND = 11,        /* offset + length is beyond 256 (heap) or 1,024 (shared) */
+    CAIF_BEYOND = 11,        /* offset + length (retrieve: the stored length) is beyond 256 (heap) or 1,024 (shared) */
     CAIF_DRAW = 12,          /* draw of 2^48 or more: protect */
     CAIF_LOG_FULL = 13,      /* the pair is not yet logged, and rows or value bytes are lacking: attest */
     CAIF_ESCROW_FULL = 14,   /* rows or value bytes are lacking: protect */

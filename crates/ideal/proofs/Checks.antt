@@ -1,22 +1,26 @@
 -- What a check says of history. Assumes nothing.
-use Prim.Native.Nat.{ℕ, suc, _+_, _*_, _≤_, min}
+use Prim.Native.Nat.{ℕ, suc, _<_}
 use mathlib.Core.Path.{_≡_, refl, sym, _∙_, ap}
 use mathlib.Core.Bool.{Bool, true, false, cond}
-use mathlib.Core.List.{List}
-use lib.ListN.{length, drop, length-take}
-use native.Mathlib.Nat.{min-le-left}
+use mathlib.Core.List.{List, [], _∷_}
+use lib.ListN.{length}
+use lib.Dec.{eqb, leb}
 use native.Mathlib.Omega.{arith}
-use borrow.Author.Tests.{eqb-false, ne-eqb}
+use borrow.Author.Tests.{eqb-false, ne-eqb, leb-true}
 use Rattle.fnv.specs.declared.Tag.{Tag}
 use Rattle.record.specs.Call.{Call, attest, check}
 use Rattle.record.specs.Read.{whole, read}
-use Rattle.ideal.specs.State.{State}
-use Rattle.ideal.specs.Step.{logged, tests, first, refusal, number}
-use Rattle.ideal.specs.Box.{Element, callOn, elementAt, tablesBefore}
+use Rattle.ideal.specs.State.{State, Logged, any, every, sameBytes}
+use Rattle.ideal.specs.Step.{isLogged, logged, tests, first, refusal, number, accepted}
+use Rattle.ideal.specs.Tables.{stateOf}
+use Rattle.ideal.specs.Box.{Element, laid, callOn, elementAt}
 use Rattle.ideal.specs.Accuracy.{LogsAt, Says, Sized, CheckAt, LongCheckIsNo}
-use Rattle.ideal.proofs.Bools.{by-cases, clash}
+use Rattle.ideal.proofs.Bools.{by-cases, clash, and-left, and-right, and-false, or-false}
+use Rattle.ideal.proofs.Lists.{same-bytes}
+use Rattle.ideal.proofs.Facts.{output-size}
+use Rattle.ideal.proofs.Laid.{valid-sound, tables-state, call-is}
 use Rattle.ideal.proofs.Chain.{failed}
-use Rattle.ideal.proofs.Runs.{stateBefore, valid-before, caller-before, accepted-at, accepts-at, Accepted, number-at}
+use Rattle.ideal.proofs.Runs.{stateBefore, valid-before, caller-before, accepted-at, accepts-at, accepted-call, Accepted, number-at}
 use Rattle.ideal.proofs.Logs.{attest-passed, logged-since}
 
 check-refusal : (s : State) (i : ℕ) (g : Tag) (v : List ℕ) → (i ≡ 0 → ⊥) → refusal s (check i g v) ≡ 0
@@ -86,18 +90,26 @@ module _ (es : List Element) (k i : ℕ) (g : Tag) (v : List ℕ) (used : ℕ)
         );
       }
 
--- what is logged has at most 256 bytes
-logged-short : (es : List Element) (k i : ℕ) (g : Tag) (v : List ℕ) → LogsAt callOn es i v g k → length v ≤ 256
-logged-short es k i g v l =
-    let a = accepted-at es k (attest (l .offset) (l .size)) (l .used) (l .reads) (l .accepts) in
-    let w = attest-passed (stateBefore es k) (l .offset) (l .size) (valid-before es k) (a .passes) in
-    let t = tablesBefore callOn es k in
-    let own = drop (256 * t .box .running + l .offset) (t .heaps) in
-    let few : length v ≡ min (l .size) (length own) = ap length (sym (l .bytes)) ∙ length-take (l .size) own in
-    let low = min-le-left (l .size) (length own) in
-    omega arith
+-- where no value is longer than 256 bytes, a longer one is not among them
+not-logged : (i : ℕ) (g : Tag) (v : List ℕ) (l : List Logged) → 256 < length v
+    → every (λ e. leb (length (e .value)) 256) l ≡ true → logged i g v l ≡ false
+unfolding logged any every isLogged
+not-logged i g v [] long short = refl
+not-logged i g v (e ∷ l) long short =
+    let fits = leb (length (e .value)) 256 in
+    let few = leb-true (length (e .value)) 256 (and-left fits _ short) in
+    let other : sameBytes (e .value) v ≡ false =
+    by-cases (sameBytes (e .value) v) (λ y. absurd (omega (arith, ap length (same-bytes (e .value) v y)))) (λ n. n) in
+    or-false (isLogged i g v e) _
+    (and-false (eqb (e .key .identity) i) _ (and-false (eqb (e .key .tag .0) (g .0)) _ other))
+    (not-logged i g v l long (and-right fits _ short))
 
 pub long-check-is-no : LongCheckIsNo callOn
-long-check-is-no es k i g v used reads long sized named =
-    check-at es k i g v used reads .no .1
-    (sized, named, λ x. let h = logged-short es (x .index) i g v (x .there) in absurd (omega arith))
+unfolding laid accepted number
+long-check-is-no t e i g v used reads long ok named =
+    let s = stateOf t in
+    let k = valid-sound t (e .outputSize) ok in
+    let step = accepted-call s e (check i g v) used reads (output-size t (e .outputSize) (ok .sizes)) (check-refusal s i g v named) in
+    let q : callOn t e .answer ≡ accepted s (check i g v) used .answer =
+    ap (λ x. callOn x e .answer) (sym (tables-state t (e .outputSize) ok)) ∙ ap (λ x. x .answer) (call-is s e k) ∙ ap (λ o. o .answer) step in
+    rw (q, not-logged i g v (s .log) long (k .log .short)) (refl, refl)

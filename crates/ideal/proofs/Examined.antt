@@ -8,7 +8,7 @@ use Rattle.ideal.specs.State.{State, cleared, fresh, ownPart, any, find,
 use Rattle.ideal.specs.Step.{isPair, isLogged, paired, logged, full, withPair, isEscrowed, found, absent, valueIn, hasHandle, handleOf, next, freeFrom, freeHandle, first, idle, vacant, beyond, tests, refusal, withHeap, withRunning, withIdentity, withShared, withLog, withEscrow, written, protected, effect, services, number, shown, Answer, refusedAnswer, refuse, accepted, settle, step, onReading, stepOn}
 use Rattle.ideal.specs.Tables.{tables}
 use Rattle.ideal.specs.Box.{Element, laid, callOn, answersFrom}
-use Rattle.ideal.specs.Exam.{hex, says, _gives_, questions, paper, sheet, Exam}
+use Rattle.ideal.specs.Exam.{hex, says, _gives_, questions, asked, expected, Exam}
 use Rattle.ideal.specs.Valid.{Valid}
 use Rattle.ideal.proofs.Laid.{stepElement, valid-fresh, valid-step, fresh-tables, call-is}
 
@@ -22,9 +22,9 @@ unfolding answersFrom answersOn laid
 answers-on s [] v = refl
 answers-on s (e ∷ es) v = rw (call-is s e v, answers-on (stepElement s e .state) es (valid-step s e v))
 
-computed : answersOn fresh paper ≡ sheet
-unfolding answersOn stepElement hex says _gives_ questions paper sheet mixed fnvFrom fnv1a little tagOf stands kinds among kindOf cut unknown wrongMap fromLittle field contents bytesField fields readFields readKind afterMap read cleared fresh ownPart any find sameBytes bytesUsed isPair isLogged paired logged full withPair isEscrowed found absent valueIn hasHandle handleOf next freeFrom freeHandle first idle vacant beyond tests refusal withHeap withRunning withIdentity withShared withLog withEscrow written protected effect services number shown refusedAnswer refuse accepted settle step onReading stepOn
+computed : answersOn fresh asked ≡ expected
+unfolding answersOn stepElement hex says _gives_ questions asked expected mixed fnvFrom fnv1a little tagOf stands kinds among kindOf cut unknown wrongMap fromLittle field contents bytesField fields readFields readKind afterMap read cleared fresh ownPart any find sameBytes bytesUsed isPair isLogged paired logged full withPair isEscrowed found absent valueIn hasHandle handleOf next freeFrom freeHandle first idle vacant beyond tests refusal withHeap withRunning withIdentity withShared withLog withEscrow written protected effect services number shown refusedAnswer refuse accepted settle step onReading stepOn
 computed = refl
 
 pub examined : Exam
-examined = rw fresh-tables (answers-on fresh paper valid-fresh ∙ computed)
+examined = rw fresh-tables (answers-on fresh asked valid-fresh ∙ computed)

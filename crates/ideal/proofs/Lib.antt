@@ -34,5 +34,6 @@ pub mod TwoStates
 pub mod Hosted
 pub mod TwoRuns
 pub mod Secret
+pub mod Demanded
 pub mod Differing
 pub mod Examined

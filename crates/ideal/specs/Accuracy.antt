@@ -15,6 +15,7 @@ use Rattle.record.specs.Read.{whole, read}
 use Rattle.ideal.specs.State.{any}
 use Rattle.ideal.specs.Tables.{Tables, usedEscrow}
 use Rattle.ideal.specs.Box.{Element, Result, elementAt, tablesBefore, answerAt}
+use Rattle.ideal.specs.Layouts.{Sound}
 use Rattle.ideal.specs.Refusals.{callerIn, ownBytes}
 
 -- something holds at an index before k
@@ -118,10 +119,11 @@ module _ (box : Tables → Element → Result) where
   CheckIsAccurate = (es : List Element) (k i : ℕ) (tag : Tag) (v : List ℕ) (used : ℕ)
       → read (elementAt es k .bytes) ≡ whole (check i tag v) used → CheckAt box es k i tag v
 
-  -- a check of more than 256 bytes is 0
+  -- on any sound box, hand-made ones included, a check of more than 256 bytes is 0
   abbrev pub LongCheckIsNo : Type 0
-  LongCheckIsNo = (es : List Element) (k i : ℕ) (tag : Tag) (v : List ℕ) (used : ℕ)
-      → read (elementAt es k .bytes) ≡ whole (check i tag v) used → 256 < length v → Sized box es k → (i ≡ 0 → ⊥) → Says box es 0 k
+  LongCheckIsNo = (t : Tables) (e : Element) (i : ℕ) (tag : Tag) (v : List ℕ) (used : ℕ)
+      → read (e .bytes) ≡ whole (check i tag v) used → 256 < length v → Sound t (e .outputSize) → (i ≡ 0 → ⊥)
+      → (box t e .answer .code ≡ 0) × (box t e .answer .number ≡ 0)
 
   abbrev pub RetrieveIsAccurate : Type 0
   RetrieveIsAccurate = (es : List Element) (k source offset : ℕ) (handle : Handle) (used : ℕ)

@@ -124,12 +124,12 @@ questions =
     ∷ hex 7 0x1B_06_0F_FA00_0600 gives says 0 6 7 (hex 6 0x000000000000)
     ∷ []
 
-unfoldable pub paper : List Element
-paper = map (λ q. q .element) questions
+unfoldable pub asked : List Element
+asked = map (λ q. q .element) questions
 
-unfoldable pub sheet : List Answer
-sheet = map (λ q. q .answer) questions
+unfoldable pub expected : List Answer
+expected = map (λ q. q .answer) questions
 
--- the box's answers to the whole paper, from a fresh box
+-- the box's answers to the whole list, from a fresh box
 abbrev pub Exam : Type 0
-Exam = answersFrom callOn freshTables paper ≡ sheet
+Exam = answersFrom callOn freshTables asked ≡ expected

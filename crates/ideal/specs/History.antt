@@ -157,6 +157,7 @@ module _ (box : Tables → Element → Result) where
   abbrev pub Accepts : List Element → ℕ → Call → ℕ → Type 0
   Accepts es k c used = (read (elementAt es k .bytes) ≡ whole c used) × (answerAt box es k .code ≡ 0)
 
+  -- what the reads and the report answer
   pub record Reports : Type 0 where
     pub heap-read : (es : List Element) (k p o n used : ℕ) → k < length es → Accepts es k (heapRead p o n) used
         → Shows (pastOf box (take k es)) p o n (answerAt box es k)

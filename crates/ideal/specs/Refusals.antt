@@ -10,7 +10,7 @@ use lib.ListN.{length, getD}
 use lib.Dec.{eqb, ltb, leb}
 use Rattle.record.specs.declared.Handle.{Handle}
 use Rattle.record.specs.Call.{Call}
-use Rattle.record.specs.Layout.{stands, mapOf}
+use Rattle.record.specs.Layout.{stands, Answers, gives, refuses, mapOf}
 use Rattle.record.specs.Read.{Reading, refused, whole, read, fromLittle}
 use Rattle.record.specs.Write.{filled}
 use Rattle.ideal.specs.declared.LogRow.{LogRow}
@@ -50,9 +50,9 @@ cutField map bs =
     || (stands map 6
     && (ltb (length bs) (at + 2) || ltb (length bs) (at + 2 + fromLittle (part bs at 2))))
 
-unfoldable pub isMap : ℕ → Option ℕ → Bool
-isMap map none = false
-isMap map (some m) = eqb m map
+unfoldable pub isMap : ℕ → Answers ℕ → Bool
+isMap map (gives m) = eqb m map
+isMap map (refuses n) = false
 
 unfoldable pub readerConditions : List ℕ → List (ℕ × Bool)
 readerConditions bs =

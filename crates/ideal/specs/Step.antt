@@ -89,9 +89,11 @@ unfoldable pub first : Tests → ℕ
 first accept = 0
 first (t then ts) = cond (t .1) (t .0) (first ts)
 
+-- none runs
 unfoldable pub idle : State → Bool
 idle s = eqb (s .running) 16
 
+-- the place is empty
 unfoldable pub vacant : State → ℕ → Bool
 vacant s p = eqb (identityAt s p) 0
 

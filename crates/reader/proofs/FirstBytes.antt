@@ -7,7 +7,7 @@ use mathlib.Core.Option.{Option, none, some}
 use native.Mathlib.Omega.{arith}
 use lib.ListN.{length, getD, drop}
 use borrow.Author.Tests.{eq-eqb, ne-eqb}
-use Rattle.record.specs.Layout.{Kind, stands, kindOf, mapIn}
+use Rattle.record.specs.Layout.{Kind, stands, kindOf, gives, refuses, mapIn}
 use Rattle.record.specs.Read.{read, afterMap, readKind, readFields, fields, cut, unknown, wrongMap}
 use Rattle.reader.specs.Scan.{callOf, ended}
 
@@ -37,19 +37,19 @@ opened (m ∷ n ∷ bs) l e =
     rw (e, one)
 
 module _ (total m : ℕ) (bs : List ℕ) where
-  pub unknown-kind : (o : Option Kind) → none ≡ mapIn o → readKind total m o bs ≡ unknown
+  pub unknown-kind : (o : Option Kind) → refuses 2 ≡ mapIn o → readKind total m o bs ≡ unknown
   unfolding mapIn readKind
   unknown-kind none e = refl
   unknown-kind (some k) e = cc
 
-  pub other-map : (l : ℕ) (o : Option Kind) → some l ≡ mapIn o → (l ≡ m → ⊥) → readKind total m o bs ≡ wrongMap
+  pub other-map : (l : ℕ) (o : Option Kind) → gives l ≡ mapIn o → (l ≡ m → ⊥) → readKind total m o bs ≡ wrongMap
   unfolding mapIn readKind
   other-map l none e h = cc
   other-map l (some k) e h =
       let d : k .map ≡ l = cc in
       rw (d, ne-eqb l m h)
 
-  pub same-map : (l : ℕ) (o : Option Kind) → some l ≡ mapIn o → l ≡ m → readKind total m o bs ≡ fields m (ended total o) bs
+  pub same-map : (l : ℕ) (o : Option Kind) → gives l ≡ mapIn o → l ≡ m → readKind total m o bs ≡ fields m (ended total o) bs
   unfolding mapIn readKind readFields ended callOf
   same-map l none e h = cc
   same-map l (some k) e h =

@@ -1,19 +1,20 @@
 -- A written record is read back, and a record that reads to a call is what is written for it. Assumes nothing.
-use Prim.Native.Nat.{ℕ, suc, _+_, _-_}
+use Prim.Native.Nat.{ℕ, suc, _+_, _-_, _^_, _<_}
 use mathlib.Core.Path.{_≡_, refl, sym, ap, _∙_}
+use mathlib.Core.Bool.{Bool, true, false, cond, _||_}
 use mathlib.Core.List.{List, [], _∷_, _++_}
 use mathlib.Core.Option.{Option, none, some}
 use native.Mathlib.Omega.{arith}
-use lib.Dec.{eqb}
-use lib.ListN.{length, take, length-append}
+use lib.Dec.{eqb, ltb}
+use lib.ListN.{length, take, drop, length-append}
 use lib.Seq.{take-at}
-use borrow.Author.Tests.{eq-eqb, eqb-true}
+use borrow.Author.Tests.{eq-eqb, eqb-true, ltb-false}
 use Rattle.record.specs.declared.Fields.{Fields}
 use Rattle.record.specs.Call.{Call}
 use Rattle.record.specs.Layout.{Kind, stands, kindOf}
 use Rattle.record.specs.Read.{whole, cut, unknown, wrongMap, read, afterMap, readKind, readFields}
-use Rattle.record.specs.Write.{Filled, only, recordOf, filled, recordIn, write}
-use Rattle.record.specs.Statements.{Fit, ReadsBack, OneRecord}
+use Rattle.record.specs.Write.{Filled, only, recordOf, filled, recordIn, write, refusedWrite, placed, tooMany, writeKind, writeOn}
+use Rattle.record.specs.Statements.{Fit, Fits, NumbersFit, ReadsBack, WriterReadsBack, OneRecord}
 use Rattle.record.proofs.FieldLaws.{fieldBytes, kept, fields-back, fields-from, by-cases, not-refused}
 use Rattle.record.proofs.KindRows.{Row, row-of, made, written}
 
@@ -41,6 +42,43 @@ reads-back c fit rest =
     rw found
     (read-record k row _ _ rest fit
     ∙ rw (ap (λ (x : Filled). x .fields) own, ap (λ (x : Filled). x .bytes) own, same))
+
+-- what the writer accepts fits: numbers that the map lacks are 0, and too many bytes are refused
+cond-less : (b : Bool) (x n : ℕ) → 0 < n → x < n → cond b x 0 < n
+cond-less true x n z h = h
+cond-less false x n z h = z
+
+kept-fits : (map : ℕ) (f : Fields) (v : List ℕ) → NumbersFit f → tooMany map (length v) ≡ false → Fit (kept map f) (only (stands map 6) v)
+unfolding kept only
+kept-fits map f v h few =
+    record {
+      place = cond-less (stands map 1) (f .place) 256 (omega arith) (h .place);
+      identity = cond-less (stands map 2) (f .identity) (2 ^ 64) (omega arith) (h .identity);
+      offset = cond-less (stands map 3) (f .offset) 65536 (omega arith) (h .offset);
+      size = cond-less (stands map 4) (f .length) 65536 (omega arith) (h .size);
+      number = cond-less (stands map 5) (f .number) (2 ^ 64) (omega arith) (h .number);
+      count =
+          by-cases (stands map 6)
+          (λ t. rw t (omega (arith, ltb-false 65535 (length v) (rw t at few))))
+          (λ t. rw t (omega arith));
+    }
+
+-- whichever refuses, the code is not 0
+accepted-write : (a b : Bool) (r buffer : List ℕ) → cond (a || b) (refusedWrite 17 buffer) (placed r buffer) .code ≡ 0
+    → (a ≡ false) × (cond (a || b) (refusedWrite 17 buffer) (placed r buffer) ≡ placed r buffer)
+unfolding refusedWrite
+accepted-write true b r buffer e = absurd (omega (arith, e))
+accepted-write false true r buffer e = absurd (omega (arith, e))
+accepted-write false false r buffer e = (refl, refl)
+
+pub writer-reads-back : WriterReadsBack
+unfolding WriterReadsBack ReadsBack writeOn writeKind placed
+writer-reads-back n k f v buffer found fit e =
+    let c = k .call f v in
+    let (few, is) = accepted-write (tooMany (k .map) (length v)) (ltb (length buffer) (length (write c))) (write c) buffer (rw found at e) in
+    let row = row-of found .0 in
+    let fits : Fits c = rw (row .fills f v) (kept-fits (k .map) f v fit few) in
+    rw (found, is) (reads-back c fits (drop (length (write c)) buffer))
 
 kind-known : {P : Type 0} (total map : ℕ) (o : Option Kind) (bs : List ℕ) {c : Call} {used : ℕ}
     → readKind total map o bs ≡ whole c used

@@ -3,24 +3,25 @@ use Prim.Native.Nat.{ℕ}
 use mathlib.Core.Path.{_≡_, refl}
 use mathlib.Core.Bool.{cond, _||_}
 use mathlib.Core.List.{List}
-use mathlib.Core.Option.{Option, none, some, Option·none-ne-some, Option·some-ne-none, Option·some-injective}
+use mathlib.Core.Option.{Option, none, some}
+use native.Mathlib.Omega.{arith}
 use lib.ListN.{length}
 use lib.Dec.{ltb}
 use Rattle.record.specs.declared.Fields.{Fields}
-use Rattle.record.specs.Layout.{Kind, kind, kindOf, mapIn, mapOf}
+use Rattle.record.specs.Layout.{Kind, kind, kindOf, gives, refuses, mapIn, mapOf}
 use Rattle.record.specs.Call.{report}
 use Rattle.record.specs.Write.{recordOf, recordIn, refusedWrite, placed, writeKind, writeOn, tooMany}
 use Rattle.record.specs.Size.{recordSize}
 use Rattle.record.proofs.KindRows.{row-of, written}
 use Rattle.record.proofs.Sizes.{length-record}
 
-pub write-unknown : (n : ℕ) (f : Fields) (v d : List ℕ) → mapOf n ≡ none → writeOn n f v d ≡ refusedWrite 2 d
+pub write-unknown : (n : ℕ) (f : Fields) (v d : List ℕ) → mapOf n ≡ refuses 2 → writeOn n f v d ≡ refusedWrite 2 d
 unfolding writeOn writeKind mapOf mapIn
 write-unknown n f v d = from (kindOf n)
   where
-    from : (o : Option Kind) → mapIn o ≡ none → writeKind o f v d ≡ refusedWrite 2 d
+    from : (o : Option Kind) → mapIn o ≡ refuses 2 → writeKind o f v d ≡ refusedWrite 2 d
     from none e = refl
-    from (some k) e = absurd (Option·some-ne-none (k .map) e)
+    from (some k) e = cc
 
 -- the kind of the number n, whose map is m
 record Known (n m : ℕ) : Type 0 where
@@ -28,15 +29,15 @@ record Known (n m : ℕ) : Type 0 where
   is : kindOf n ≡ some kind
   map : kind .map ≡ m
 
-known-kind : (n : ℕ) {m : ℕ} → mapOf n ≡ some m → Known n m
+known-kind : (n : ℕ) {m : ℕ} → mapOf n ≡ gives m → Known n m
 unfolding mapOf mapIn
 known-kind n {m} = from (kindOf n) refl
   where
-    from : (o : Option Kind) → kindOf n ≡ o → mapIn o ≡ some m → Known n m
-    from none i e = absurd (Option·none-ne-some m e)
-    from (some k) i e = record { kind = k; is = i; map = Option·some-injective (k .map) m e }
+    from : (o : Option Kind) → kindOf n ≡ o → mapIn o ≡ gives m → Known n m
+    from none i e = let q : _≡_ {A = ℕ} 0 1 = cc in absurd (omega (arith, q))
+    from (some k) i e = record { kind = k; is = i; map = cc }
 
-module _ (n : ℕ) {m : ℕ} (known : mapOf n ≡ some m) (f : Fields) (v : List ℕ) where
+module _ (n : ℕ) {m : ℕ} (known : mapOf n ≡ gives m) (f : Fields) (v : List ℕ) where
   -- the tests, and the record where they pass
   pub write-known : (d : List ℕ) → writeOn n f v d
       ≡ cond (tooMany m (length v) || ltb (length d) (recordSize m (length v))) (refusedWrite 17 d) (placed (recordIn (kindOf n) f v) d)

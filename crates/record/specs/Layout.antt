@@ -46,10 +46,15 @@ among (k ∷ ks) n = cond (eqb (k .number) n) (some k) (among ks n)
 unfoldable pub kindOf : ℕ → Option Kind
 kindOf n = among kinds n
 
-unfoldable pub mapIn : Option Kind → Option ℕ
-mapIn none = none
-mapIn (some k) = some (k .map)
+-- what a part of the box answers: a value, or the number of a refusal
+pub data Answers (A : Type 0) : Type 0 where
+  gives : A → Answers A
+  refuses : ℕ → Answers A
+
+unfoldable pub mapIn : Option Kind → Answers ℕ
+mapIn none = refuses 2
+mapIn (some k) = gives (k .map)
 
 -- a kind's one legal map
-unfoldable pub mapOf : ℕ → Option ℕ
+unfoldable pub mapOf : ℕ → Answers ℕ
 mapOf n = mapIn (kindOf n)

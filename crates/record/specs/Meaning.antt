@@ -1,7 +1,6 @@
 -- What each case of the code's enums means: document 01's numbers and values.
 use Prim.Native.Nat.{ℕ, _+_, _≤_}
 use mathlib.Core.List.{List}
-use mathlib.Core.Option.{Option, none, some}
 use lib.ListN.{length, take, drop}
 use Rattle.record.specs.declared.Part.{Part}
 use Rattle.record.specs.declared.Call as code
@@ -11,6 +10,7 @@ use Rattle.record.specs.declared.Reading.the-variants.{Whole, Cut, Unkno
 use Rattle.record.specs.declared.LegalMap as legal
 use Rattle.record.specs.declared.LegalMap.the-variants.{Map, NoSuchKind}
 use Rattle.record.specs.Call.{Call, create, start, yield, exit, heapWrite, heapRead, sharedWrite, sharedRead, attest, check, protect, retrieve, report}
+use Rattle.record.specs.Layout.{Answers, gives, refuses}
 use Rattle.record.specs.Read.{Reading, whole, cut, unknown, wrongMap}
 
 -- the bytes of a bytes field
@@ -64,6 +64,6 @@ Within bs Cut = Unit {0}
 Within bs UnknownKind = Unit {0}
 Within bs WrongMap = Unit {0}
 
-unfoldable pub legalMap : legal.LegalMap → Option ℕ
-legalMap (Map m) = some m
-legalMap NoSuchKind = none
+unfoldable pub legalMap : legal.LegalMap → Answers ℕ
+legalMap (Map m) = gives m
+legalMap NoSuchKind = refuses 2

@@ -1,12 +1,14 @@
 -- What is proved of the reader's and the writer's definitions. The proofs are in proofs/RoundTrip.antt.
 use Prim.Native.Nat.{ℕ, _+_, _≤_, _<_, _^_}
 use mathlib.Core.Path.{_≡_}
-use mathlib.Core.List.{List, _++_}
+use mathlib.Core.List.{List, [], _++_}
+use mathlib.Core.Option.{some}
 use lib.ListN.{length, getD, take}
 use Rattle.record.specs.declared.Fields.{Fields}
 use Rattle.record.specs.Call.{Call}
+use Rattle.record.specs.Layout.{Kind, kindOf}
 use Rattle.record.specs.Read.{read, whole}
-use Rattle.record.specs.Write.{filled, write}
+use Rattle.record.specs.Write.{filled, write, writeOn}
 
 -- the numbers fit their fields, and the count of bytes fits its own
 pub record Fit (f : Fields) (v : List ℕ) : Type 0 where
@@ -27,6 +29,16 @@ Bytes bs = (k : ℕ) → k < length bs → getD bs k 0 < 256
 -- reading a written record, whatever follows it, returns the call and the record's length
 unfoldable pub ReadsBack : Type 0
 ReadsBack = (c : Call) → Fits c → (rest : List ℕ) → read (write c ++ rest) ≡ whole c (length (write c))
+
+-- the numbers fit their fields
+abbrev pub NumbersFit : Fields → Type 0
+NumbersFit f = Fit f []
+
+-- what the writer accepts stands at the buffer's front, and reading the buffer returns the call and the record's length
+unfoldable pub WriterReadsBack : Type 0
+WriterReadsBack = (n : ℕ) (k : Kind) (f : Fields) (v buffer : List ℕ) → kindOf n ≡ some k → NumbersFit f
+    → let w = writeOn n f v buffer in
+    w .code ≡ 0 → read (w .buffer) ≡ whole (k .call f v) (w .length)
 
 -- a record that reads to a call is, in the bytes used, what the writer writes for that call
 pub record OneRecordOf (bs : List ℕ) (c : Call) (used : ℕ) : Type 0 where

@@ -81,7 +81,7 @@ pub enum Reading {
     WrongMap,
 }
 
-// The numbers in a record's fields; 0 in a field that the map lacks.
+// The numbers in a record's fields. The reader gives 0 in a field that the map lacks; the writer ignores it.
 #[repr(C)]
 pub struct Fields {
     pub place: u8,

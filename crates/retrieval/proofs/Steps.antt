@@ -1,13 +1,14 @@
 -- What retrieve does with a row that was found. Assumes nothing.
 use Prim.Native.Nat.{ℕ, _+_, _*_, _≤_, _<_}
-use mathlib.Core.Path.{_≡_}
+use mathlib.Core.Path.{_≡_, refl}
 use mathlib.Core.Bool.{true, false}
 use mathlib.Core.List.{List}
-use mathlib.Core.Option.{Option, some}
+use mathlib.Core.Option.{Option, none, some}
 use lib.ListN.{length, getD}
 use lib.Seq.{sets}
 use lib.Dec.{eqb, ltb}
 use Rattle.record.specs.declared.Handle.{Handle}
+use Rattle.record.specs.Layout.{gives, refuses}
 use Rattle.ideal.specs.declared.BoxRecord.{BoxRecord}
 use Rattle.ideal.specs.declared.EscrowRow.{EscrowRow}
 use Rattle.ideal.specs.State.{Escrowed, part}
@@ -19,7 +20,7 @@ use Rattle.state.specs.declared.Answer.{Answer}
 use Rattle.state.specs.Answers.{refusedWith, acceptedWith, settled, answered}
 use Rattle.retrieval.specs.declared.Found.{Found}
 use Rattle.retrieval.specs.declared.Found.the-variants.{At}
-use Rattle.retrieval.specs.Search.{entryFound, Within}
+use Rattle.retrieval.specs.Search.{entryFound, sought, Within}
 use Rattle.retrieval.specs.Narrow.{foundOn, retrieveRefusal, retrieveAnswer, retrieveHeaps}
 
 abbrev pub rowAt : List EscrowRow → ℕ → EscrowRow
@@ -32,14 +33,24 @@ pub record RowFound (i n : ℕ) (values : List ℕ) (rows : List EscrowRow) (ent
   pub is : some (entryOf escrowTable values (rowAt rows i)) ≡ entry
   pub size : length (part values (rowAt rows i .first) (rowAt rows i .length)) ≡ rowAt rows i .length
 
+pub given : {e : Escrowed} {o : Option Escrowed} → gives e ≡ sought o → some e ≡ o
+unfolding sought
+given {o = some x} h = cc
+given {o = none} h = cc
+
+pub not-given : {o : Option Escrowed} → refuses 10 ≡ sought o → none ≡ o
+unfolding sought
+not-given {o = some x} h = cc
+not-given {o = none} h = refl
+
 pub row-found : {i n : ℕ} {values : List ℕ} {rows : List EscrowRow} {entry : Option Escrowed} {f : Found} → f ≡ At i → Within n f
-    → entryFound values rows f ≡ entry → RowsFit escrowTable rows n (length values) → RowFound i n values rows entry
+    → entryFound values rows f ≡ sought entry → RowsFit escrowTable rows n (length values) → RowFound i n values rows entry
 unfolding Within entryFound RowsFit
 row-found {i} {n} {values} {rows} a w e fit =
     let p : i < n = rw a at w in
     let r = rowAt rows i in
     let q : r .first + r .length ≤ length values = fit i p in
-    record { within = p; fits = q; is = rw a at e; size = part-length values (r .first) (r .length) q }
+    record { within = p; fits = q; is = given (rw a at e); size = part-length values (r .first) (r .length) q }
 
 -- ---- retrieve, of a row that was found
 

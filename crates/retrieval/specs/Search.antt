@@ -3,16 +3,22 @@ use Prim.Native.Nat.{ℕ, _<_}
 use mathlib.Core.List.{List}
 use mathlib.Core.Option.{Option, none, some}
 use lib.ListN.{getD}
+use Rattle.record.specs.Layout.{Answers, gives, refuses}
 use Rattle.ideal.specs.declared.EscrowRow.{EscrowRow}
 use Rattle.ideal.specs.State.{Escrowed}
 use Rattle.ideal.specs.Tables.{escrowTable, entryOf}
 use Rattle.retrieval.specs.declared.Found.{Found}
 use Rattle.retrieval.specs.declared.Found.the-variants.{At, Nothing}
 
--- what each case of the search's answer stands for: what is escrowed in that row, or nothing (a retrieve's refusal 10)
-unfoldable pub entryFound : List ℕ → List EscrowRow → Found → Option Escrowed
-entryFound values rows (At i) = some (entryOf escrowTable values (getD rows i (escrowTable .blank)))
-entryFound values rows Nothing = none
+-- what each case of the search's answer stands for: what is escrowed in that row, or the refusal 10
+unfoldable pub entryFound : List ℕ → List EscrowRow → Found → Answers Escrowed
+entryFound values rows (At i) = gives (entryOf escrowTable values (getD rows i (escrowTable .blank)))
+entryFound values rows Nothing = refuses 10
+
+-- what a search of the definition gives
+unfoldable pub sought : Option Escrowed → Answers Escrowed
+sought (some e) = gives e
+sought none = refuses 10
 
 -- the row found is one of the first n
 unfoldable pub Within : ℕ → Found → Type 0

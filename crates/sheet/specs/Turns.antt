@@ -9,7 +9,7 @@ use Rattle.ideal.specs.Layouts.{Sound}
 use Rattle.sheet.specs.Sheet.{line, header, stops, called, linesFrom, sheet}
 
 -- one record at the front of what is left of a script: the tables that its call leaves, its line, the bytes used, and
--- whether this turn is the last
+-- whether the line has 1, 2 or 3, after which no other comes
 pub record Turn : Type 0 where
   pub tables : Tables
   pub text : List ℕ

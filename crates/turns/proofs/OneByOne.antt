@@ -53,7 +53,7 @@ unfolding turnsFrom
 nothing-left room t [] h = refl
 nothing-left room t (b ∷ bs) h = absurd (omega arith)
 
--- where the longest line might not fit there is no turn
+-- where the next line might not fit there is no turn
 no-room : (room : ℕ) (t : Tables) (rest : List ℕ) → room < 2113 → turns room t rest ≡ noTurn t
 unfolding turnsFrom
 no-room room t [] h = refl

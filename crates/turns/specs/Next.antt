@@ -8,18 +8,17 @@ use lib.Dec.{ltb}
 use Rattle.ideal.specs.Tables.{Tables}
 use Rattle.ideal.specs.Layouts.{Sound}
 use Rattle.soundness.specs.Parts.{tablesOf}
-use Rattle.turns.specs.declared.NextLine.{NextLine}
 use Rattle.turns.specs.declared.Lines.{Lines}
 use Rattle.sheet.specs.Sheet.{linesFrom}
 use Rattle.sheet.specs.Stored.{AtFront}
 use Rattle.sheet.specs.Turns.{Turn, turn}
 
-abbrev pub turnOf : NextLine → (heaps shared logValues escrowValues out : List ℕ) → Turn
+abbrev pub turnOf : Lines → (heaps shared logValues escrowValues out : List ℕ) → Turn
 turnOf r heaps shared logValues escrowValues out =
     record {
-      tables = tablesOf (r .reply .held) (r .reply .log) (r .reply .escrow) heaps shared logValues escrowValues;
+      tables = tablesOf (r .held) (r .log) (r .escrow) heaps shared logValues escrowValues;
       text = take (r .size) out;
-      used = r .reply .used;
+      used = r .used;
       last = r .last;
     }
 
@@ -30,15 +29,6 @@ pub record TurnMade (made defined : Turn) (before after : List ℕ) (size : ℕ)
 
 -- ---- one turn after another
 
-abbrev pub turnsOf : Lines → (heaps shared logValues escrowValues out : List ℕ) → Turn
-turnsOf r heaps shared logValues escrowValues out =
-    record {
-      tables = tablesOf (r .held) (r .log) (r .escrow) heaps shared logValues escrowValues;
-      text = take (r .size) out;
-      used = r .used;
-      last = r .last;
-    }
-
 abbrev pub noTurn : Tables → Turn
 noTurn t = record { tables = t; text = []; used = 0; last = false }
 
@@ -47,7 +37,7 @@ abbrev pub followed : Turn → Turn → Turn
 followed a later =
     record { tables = later .tables; text = a .text ++ later .text; used = a .used + later .used; last = later .last }
 
--- turns until no input is left, after one that is the last, or where the longest line might not fit in the room that is
+-- turns until no input is left, after one that is the last, or where the next line might not fit in the room that is
 -- left; at most n
 unfoldable pub turnsFrom : (n room : ℕ) → Tables → List ℕ → Turn
 turnsFrom zero room t rest = noTurn t
@@ -74,7 +64,7 @@ pub record Writes (made : Turn) (t : Tables) (rest : List ℕ) : Type 0 where
 abbrev pub TurnsWrite : Type 0
 TurnsWrite = (room : ℕ) (t : Tables) (rest : List ℕ) → Sound t 1024 → Writes (turns room t rest) t rest
 
--- where input is left and the longest line fits, something is written
+-- where input is left and there is room for any line, something is written
 abbrev pub TurnsGoOn : Type 0
 TurnsGoOn = (room : ℕ) (t : Tables) (rest : List ℕ) → Sound t 1024 → 0 < length rest → 2113 ≤ room → turns room t rest .last ≡ false
     → 0 < turns room t rest .used

@@ -1,5 +1,4 @@
 // The records of a script, run on a sound box, and their lines.
-ghost use mathlib.Core.Path.{_≡_};
 ghost use Prim.Native.Nat.{_+_, _*_, _≤_};
 ghost use lib.ListN.{length, take};
 ghost use Rattle.ideal.specs.Layouts.{Sound};
@@ -7,22 +6,15 @@ ghost use Rattle.soundness.specs.Parts.{tablesOf};
 ghost use Rattle.sheet.specs.Sheet.{line};
 ghost use Rattle.sheet.specs.Stored.{AtFront};
 ghost use Rattle.sheet.specs.Turns.{turn};
-ghost use Rattle.turns.specs.Next.{turnOf, turnsOf, TurnMade, turns};
-use calls::Reply;
+ghost use Rattle.turns.specs.Next.{turnOf, TurnMade, turns};
 use ideal::BoxRecord;
 use sheet::is_last;
 use sheet::write_line;
 use state::EscrowTable;
 use state::LogTable;
 
-// What a turn gives: the reply, how many bytes the line has, and whether it is the last.
-pub struct NextLine {
-    pub reply: Reply,
-    pub size: usize,
-    pub last: bool,
-}
-
-// What turns give, one after another: the box, the bytes used, how many bytes the lines have, and whether they end the sheet.
+// What a turn gives, or turns one after another: the box, the bytes used, how many bytes the lines have, and whether the
+// last of them has code 1, 2 or 3, after which no other comes.
 pub struct Lines {
     pub held: BoxRecord,
     pub log: LogTable,
@@ -62,7 +54,7 @@ pub fn next_line(
     escrow_values: &mut [u8],
     rest: &[u8],
     out: &mut [u8],
-) -> NextLine
+) -> Lines
     requires { ⌜
         Sound (tablesOf b log escrow (now heaps) (now shared) (now «log_values») (now «escrow_values»)) 1024
         × (2113 ≤ length (now out))
@@ -95,8 +87,14 @@ pub fn next_line(
         &output,
         out,
     );
-    NextLine {
-        reply,
+    let held = reply.held;
+    let log = reply.log;
+    let escrow = reply.escrow;
+    Lines {
+        held,
+        log,
+        escrow,
+        used: reply.used,
         size,
         last: is_last(reply.code),
     }
@@ -121,7 +119,7 @@ pub fn next_lines(
         ⌝ }
     ensures { λ r. ⌜
         TurnMade
-        (turnsOf r (now (heaps .exit)) (now (shared .exit)) (now («log_values» .exit)) (now («escrow_values» .exit)) (now (out .exit)))
+        (turnOf r (now (heaps .exit)) (now (shared .exit)) (now («log_values» .exit)) (now («escrow_values» .exit)) (now (out .exit)))
         (turns (length (now (out .entry)))
         (tablesOf b log escrow (now (heaps .entry)) (now (shared .entry)) (now («log_values» .entry)) (now («escrow_values» .entry)))
         (now (rest .entry)))
@@ -146,11 +144,10 @@ pub fn next_lines(
             &rest[used..],
             &mut out[size..],
         );
-        let reply = next.reply;
-        b = reply.held;
-        log = reply.log;
-        escrow = reply.escrow;
-        used += reply.used;
+        b = next.held;
+        log = next.log;
+        escrow = next.escrow;
+        used += next.used;
         size += next.size;
         last = next.last;
         if last {

@@ -1,13 +1,12 @@
 // The writer: the record of a call, at the front of a lent buffer.
 ghost use mathlib.Core.Path.{_≡_};
 ghost use mathlib.Core.Bool.{false};
-ghost use mathlib.Core.Option.{some};
 ghost use Prim.Native.Nat.{_+_, _≤_, _<_};
 ghost use mathlib.Core.List.{[], _∷_, _++_};
 ghost use lib.ListN.{length};
 ghost use lib.Seq.{sets};
 ghost use Rattle.fnv.specs.Fnv.{little};
-ghost use Rattle.record.specs.Layout.{kindOf, mapOf, stands};
+ghost use Rattle.record.specs.Layout.{kindOf, gives, mapOf, stands};
 ghost use Rattle.record.specs.Write.{only, recordIn, tooMany, writeOn};
 ghost use Rattle.record.specs.Size.{fieldSize, recordSize};
 ghost use Rattle.writer.specs.Outcomes.{wroteOn};
@@ -97,7 +96,7 @@ fn put_head(out: &mut [u8], map: u8, kind: u8)
 
 // The whole record of a kind, whose map is `map`.
 fn put_record(out: &mut [u8], map: u8, kind: u8, fields: Fields, bytes: &[u8])
-    requires { ⌜ (mapOf kind ≡ some map) × (recordSize map (length (now bytes)) ≤ length (now out)) ⌝ }
+    requires { ⌜ (mapOf kind ≡ gives map) × (recordSize map (length (now bytes)) ≤ length (now out)) ⌝ }
     ensures { λ r. ⌜ now (out .exit) ≡ sets (now (out .entry)) 0 (recordIn (kindOf kind) fields (now (bytes .entry))) ⌝ }
 {
     put_head(out, map, kind);

@@ -1,5 +1,5 @@
 use Prim.Native.Nat.{ℕ, _-_, _≤_}
-use mathlib.Core.Path.{_≡_, refl, sym, _∙_}
+use mathlib.Core.Path.{_≡_, refl, sym, ap, _∙_}
 use mathlib.Core.List.{List}
 use native.Mathlib.Omega.{arith}
 use lib.ListN.{length, take, drop, length-take}
@@ -8,7 +8,7 @@ use borrow.Author.Needs.{needs}
 use Rattle.ideal.specs.State.{find}
 use Rattle.ideal.specs.Step.{isEscrowed}
 use Rattle.ideal.specs.Tables.{escrowTable, entriesOf}
-use Rattle.retrieval.specs.Search.{entryFound, Within}
+use Rattle.retrieval.specs.Search.{entryFound, sought, Within}
 use Rattle.buffers.proofs.Loops.{one-on}
 use Rattle.retrieval.proofs.find_row.Statement.{statement}
 use Rattle.retrieval.proofs.find_row.Tie as tie
@@ -36,14 +36,14 @@ row-is-requires : tie.Need-row-is-requires Inv-loop μ-loop
 row-is-requires c κs = search needs
 
 returns : tie.Need-returns Inv-loop μ-loop
-unfolding Within entryFound find entriesOf
+unfolding Within entryFound sought find entriesOf
 returns c =
     let x = c .before .before .before .before .before .args in
     let l = c .before .before .before .before .loop in
     let q : x .n ≤ length (x .t1) = omega (arith, c .before .before .before .before .before .good .0 .1 .0) in
     let p = c .before .before .before .loop-test .taken in
     let one = one-on (x .t1) (x .n) (l .i) (escrowTable .blank) p q in
-    (p, λ values. rw (one, sym (c .before .row-is .ensures values) ∙ c .if1 .taken) at (l .inv .1 values))
+    (p, λ values. ap sought (rw (one, sym (c .before .row-is .ensures values) ∙ c .if1 .taken) at (l .inv .1 values)))
 
 add-i : tie.Need-add-i Inv-loop μ-loop
 add-i c = omega arith
@@ -62,12 +62,12 @@ loop-again c =
     (omega arith, λ values. rw (one, sym (c .before .row-is .ensures values) ∙ c .if1 .left) at (l .inv .1 values))
 
 returns-2 : tie.Need-returns-2 Inv-loop μ-loop
-unfolding Within entryFound find entriesOf
+unfolding Within entryFound sought find entriesOf
 returns-2 c =
     let x = c .before .before .args in
     let q : x .n ≤ length (x .t1) = omega (arith, c .before .before .good .0 .1 .0) in
     let e : c .before .loop .i ≡ length (take (x .n) (x .t1)) = simp length-take (omega arith) in
-    (tt, λ values. rw (e, drop-length (take (x .n) (x .t1))) at (c .before .loop .inv .1 values))
+    (tt, λ values. ap sought (rw (e, drop-length (take (x .n) (x .t1))) at (c .before .loop .inv .1 values)))
 
 pub find-row-spec : {M : Type 1} → statement M
 find-row-spec =

@@ -9,7 +9,7 @@ use Rattle.ideal.specs.Step.{absent, first}
 use Rattle.state.specs.Answers.{settled, answered}
 use Rattle.retrieval.specs.Search.{entryFound}
 use Rattle.retrieval.specs.Narrow.{foundOn, retrieveRefusal, retrieveAnswer, retrieveHeaps}
-use Rattle.retrieval.proofs.Steps.{RowFound, row-found, retrieve-beyond, retrieve-done}
+use Rattle.retrieval.proofs.Steps.{RowFound, row-found, not-given, retrieve-beyond, retrieve-done}
 use Rattle.retrieval.proofs.retrieve.Statement.{statement}
 use Rattle.retrieval.proofs.retrieve.Tie as tie
 
@@ -62,7 +62,7 @@ returns-3 c =
     let x = c .before .before .before .before .before .before .before .before .before .before .before .before .args in
     let e = ne-eqb _ _ (c .before .before .before .before .before .before .before .before .before .if1 .left) in
     let f = ne-eqb _ _ (c .before .before .before .before .before .before .before .before .if2 .left) in
-    let g = rw (c .before .enum-told .given .1) at (c .before .before .before .find-row .ensures .1 (x .values .now)) in
+    let g = not-given (rw (c .before .enum-told .given .1) at (c .before .before .before .find-row .ensures .1 (x .values .now))) in
     (rw (e, f, ← g) (c .refused3 .ensures), rw (e, f, ← g))
 
 -- the row that was found

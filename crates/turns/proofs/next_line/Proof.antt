@@ -38,7 +38,8 @@ same-length-5 c = search needs
 
 returns : tie.Need-returns
 returns c =
-    rw (c .is-last .ensures) (turn-called _ _ _ _ (c .before .before .before .before .before .before .before .before .before .before .before .before .before .before .before .call-sound .ensures) (c .before .before .before .before .before .before .before .before .before .before .before .before .before .before .before .before .before .before .before .before .before .before .before .before .before .before .before .pre .0) (c .before .before .before .write-answer .ensures))
+    let start = c .before .before .before .before .before .before .before .before .before .before .before .before .before .before .before .before .before .before .before .before .before .before .before .before .before .before .before .before .before .before in
+    rw (c .is-last .ensures) (turn-called _ _ _ _ (c .before .before .before .before .before .before .before .before .before .before .before .before .before .before .before .before .before .before .call-sound .ensures) (start .pre .0) (c .before .before .before .before .before .before .write-answer .ensures))
 
 pub next-line-spec : {M : Type 1} → statement M
 next-line-spec =

@@ -2,10 +2,9 @@ use borrow.Author.Needs.{needs}
 use borrow.Author.Tests.{lt-ltb, le-ltb}
 use Prim.Native.Nat.{_≤_, _<_}
 use mathlib.Core.Path.{_≡_, sym, ap, _∙_}
-use mathlib.Core.Option.{some}
 use native.Mathlib.Omega.{arith}
 use lib.ListN.{length}
-use Rattle.record.specs.Layout.{kindOf, mapOf}
+use Rattle.record.specs.Layout.{kindOf, gives, mapOf}
 use Rattle.record.specs.Write.{recordIn, refusedWrite, placed}
 use Rattle.record.specs.Size.{recordSize}
 use Rattle.record.specs.Meaning.{legalMap}
@@ -16,7 +15,7 @@ use Rattle.writer.proofs.write_call.Statement.{statement}
 use Rattle.writer.proofs.write_call.Tie as tie
 
 -- the map that was found is the kind's
-has-map : (c : tie.After-map) → mapOf (c .before .before .before .before .before .args .kind) ≡ some (c .map .given .0 .0)
+has-map : (c : tie.After-map) → mapOf (c .before .before .before .before .before .args .kind) ≡ gives (c .map .given .0 .0)
 unfolding legalMap
 has-map c = sym (c .before .before .legal-map .ensures) ∙ ap legalMap (c .map .given .1)
 
