@@ -23,10 +23,14 @@ use Rattle.state.specs.declared.Answer.{Answer}
 use Rattle.state.specs.declared.BoxAnswer.{BoxAnswer}
 use Rattle.state.specs.Answers.{settled, answered}
 use Rattle.state.proofs.Settled.{answerOf}
-use Rattle.services.specs.Narrow.{createOn, startOn, yieldOn, exitOn, exitHeaps, reportOn}
-use Rattle.services.proofs.Bridge.{replacePlaces, create-step, start-step, yield-step, exit-step, report-step}
-use Rattle.memory.specs.Narrow.{heapWriteAnswer, heapWriteHeaps, heapReadAnswer, heapReadOutput, sharedWriteAnswer, sharedWriteShared, sharedReadAnswer, sharedReadOutput}
-use Rattle.memory.proofs.Bridge.{Shows, heap-write-step, heap-read-step, shared-write-step, shared-read-step}
+use Rattle.running.specs.Narrow.{startOn, yieldOn, reportOn}
+use Rattle.running.proofs.Bridge.{replacePlaces, start-step, yield-step, report-step}
+use Rattle.services.specs.Narrow.{createOn, exitOn, exitHeaps}
+use Rattle.services.proofs.Bridge.{create-step, exit-step}
+use Rattle.shared.specs.Narrow.{sharedWriteAnswer, sharedWriteShared, sharedReadAnswer, sharedReadOutput}
+use Rattle.shared.proofs.Bridge.{Shows, shared-write-step, shared-read-step}
+use Rattle.heap.specs.Narrow.{heapWriteAnswer, heapWriteHeaps, heapReadAnswer, heapReadOutput}
+use Rattle.heap.proofs.Bridge.{heap-write-step, heap-read-step}
 use Rattle.log.specs.Narrow.{logOf, moreLog, attested, attestOn, checkOn}
 use Rattle.log.proofs.Bridge.{onLog, attest-step, check-step}
 use Rattle.escrow.specs.Narrow.{moreEscrow, protectUnless, protectOn}

@@ -17,8 +17,10 @@ use Rattle.state.specs.declared.Answer.{Answer}
 use Rattle.state.specs.declared.BoxAnswer.{BoxAnswer}
 use Rattle.state.specs.declared.LogAnswer.{LogAnswer}
 use Rattle.state.specs.declared.EscrowAnswer.{EscrowAnswer}
-use Rattle.services.specs.Narrow.{createOn, startOn, yieldOn, exitOn, exitHeaps, reportOn}
-use Rattle.memory.specs.Narrow.{heapWriteAnswer, heapWriteHeaps, heapReadAnswer, heapReadOutput, sharedWriteAnswer, sharedWriteShared, sharedReadAnswer, sharedReadOutput}
+use Rattle.running.specs.Narrow.{startOn, yieldOn, reportOn}
+use Rattle.services.specs.Narrow.{createOn, exitOn, exitHeaps}
+use Rattle.shared.specs.Narrow.{sharedWriteAnswer, sharedWriteShared, sharedReadAnswer, sharedReadOutput}
+use Rattle.heap.specs.Narrow.{heapWriteAnswer, heapWriteHeaps, heapReadAnswer, heapReadOutput}
 use Rattle.log.specs.Narrow as log-part
 use Rattle.log.specs.Narrow.{attestOn, checkOn}
 use Rattle.escrow.specs.Narrow as escrow-part

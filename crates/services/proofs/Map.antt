@@ -1,17 +1,15 @@
--- The map of taken places: a place's bit added and taken away, and its bits counted. Assumes nothing.
-use Prim.Native.Nat.{ℕ, zero, suc, _+_, _/_, _^_, _≤_, _<_}
+-- The map of taken places: a place's bit added and taken away. Assumes nothing.
+use Prim.Native.Nat.{ℕ, zero, suc, _+_, _^_, _≤_, _<_}
 use mathlib.Core.Path.{_≡_, sym, ap, _∙_}
 use mathlib.Core.Bool.{cond}
 use mathlib.Core.List.{List, [], _∷_}
 use native.Mathlib.Omega.{arith}
 use native.Mathlib.Nat.{pow-le-pow-right, pow-succ'}
-use lib.Count as Count
 use lib.Dec.{eqb}
 use lib.ListN.{length, getD, set, length-set}
 use lib.Seq.{set-set, set-getD, getD-set-same}
 use borrow.Author.Tests.{eq-eqb, ne-eqb}
 use Rattle.ideal.specs.Tables.{takenMap}
-use Rattle.ideal.specs.History.{ones}
 use Rattle.ideal.proofs.Bools.{by-cases}
 
 pub bit-fits : (p : ℕ) → p < 16 → 2 ^ p < 65536
@@ -44,13 +42,3 @@ map-left ids p h n =
     let l : p < length (set ids p 0) = rw (length-set ids p 0) h in
     let k = map-taken (set ids p 0) p (getD ids p 0) l (getD-set-same ids p 0 0 h) n in
     sym k ∙ ap takenMap (set-set ids p 0 (getD ids p 0) ∙ set-getD ids p 0)
-
--- the ones operation counts a map's bits
-pub ones-counted : (n map : ℕ) → map < 2 ^ n → ones n map ≡ Count.ones map
-unfolding ones
-ones-counted zero map h =
-    let z : map ≡ 0 = omega arith in
-    rw z (sym (Count.ones-ones 0))
-ones-counted (suc n) map h =
-    let k : map / 2 < 2 ^ n = let e = pow-succ' 2 n in omega arith in
-    rw (ones-counted n (map / 2) k) (sym (Count.ones-step map))

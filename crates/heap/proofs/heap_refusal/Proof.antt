@@ -1,0 +1,34 @@
+use borrow.Author.Tests.{eq-eqb, ne-eqb, lt-ltb, le-ltb}
+use borrow.Author.Needs.{needs}
+use Rattle.ideal.specs.Step.{first}
+use Rattle.shared.specs.Narrow.{rangeRefusal}
+use Rattle.heap.specs.Narrow.{heapRefusal}
+use Rattle.heap.proofs.heap_refusal.Statement.{statement}
+use Rattle.heap.proofs.heap_refusal.Tie as tie
+
+returns : tie.Need-returns
+unfolding heapRefusal first
+returns c =
+    rw (eq-eqb _ _ (c .if1 .taken))
+
+returns-2 : tie.Need-returns-2
+unfolding heapRefusal first
+returns-2 c =
+    rw (ne-eqb _ _ (c .before .if1 .left), lt-ltb _ _ (c .if2 .taken))
+
+returns-3 : tie.Need-returns-3
+unfolding heapRefusal first
+returns-3 c =
+    rw (ne-eqb _ _ (c .before .before .if1 .left), le-ltb _ _ (c .before .if2 .left), ne-eqb _ _ (c .if3 .taken))
+
+range-refusal-requires : tie.Need-range-refusal-requires
+range-refusal-requires c κs = search needs
+
+returns-4 : tie.Need-returns-4
+unfolding heapRefusal rangeRefusal first
+returns-4 c =
+    rw (ne-eqb _ _ (c .before .before .before .if1 .left), le-ltb _ _ (c .before .before .if2 .left), eq-eqb _ _ (c .before .if3 .left)) (c .range-refusal .ensures)
+
+pub heap-refusal-spec : {M : Type 1} → statement M
+heap-refusal-spec =
+    tie.close (tie.spec returns returns-2 returns-3 range-refusal-requires returns-4)

@@ -1,0 +1,69 @@
+// The running place's heap, written and read.
+ghost use mathlib.Core.Path.{_≡_};
+ghost use Prim.Native.Nat.{_+_, _*_};
+ghost use lib.ListN.{length};
+ghost use Rattle.heap.specs.Narrow.{heapRefusal, heapWriteAnswer, heapWriteHeaps, heapReadAnswer, heapReadOutput};
+use buffers::put;
+use ideal::BoxRecord;
+use shared::range_refusal;
+use shared::show;
+use state::Answer;
+use state::accepted;
+use state::refused;
+
+fn heap_refusal(running: u8, place: u8, offset: u16, size: usize) -> u8
+    ensures { λ r. ⌜ r ≡ heapRefusal running place offset size ⌝ }
+{
+    if running == 16 {
+        return 4;
+    }
+    if place > 15 {
+        return 6;
+    }
+    if place != running {
+        return 8;
+    }
+    range_refusal(256, offset, size)
+}
+
+// Place p has the 256 bytes from 256 times p.
+fn heap_byte(place: u8, offset: u16) -> usize
+    ensures { λ r. ⌜ r ≡ 256 * place + offset ⌝ }
+{
+    256 * (place as usize) + offset as usize
+}
+
+pub fn heap_write(b: BoxRecord, heaps: &mut [u8], place: u8, offset: u16, bytes: &[u8]) -> Answer
+    requires { ⌜ length (now heaps) ≡ 4096 ⌝ }
+    ensures { λ r. ⌜ r ≡ heapWriteAnswer b place offset (now (bytes .entry)) ⌝ }
+    ensures { λ _. ⌜ now (heaps .exit) ≡ heapWriteHeaps b (now (heaps .entry)) place offset (now (bytes .entry)) ⌝ }
+{
+    let running = b.running;
+    let n = bytes.len();
+    let refusal = heap_refusal(running, place, offset, n);
+    if refusal != 0 {
+        return refused(refusal);
+    }
+    put(bytes, heaps, heap_byte(running, offset));
+    accepted(n as u64)
+}
+
+pub fn heap_read(
+    b: BoxRecord,
+    heaps: &[u8],
+    output: &mut [u8],
+    place: u8,
+    offset: u16,
+    size: u16,
+) -> Answer
+    requires { ⌜ (length (now heaps) ≡ 4096) × (length (now output) ≡ 1024) ⌝ }
+    ensures { λ r. ⌜ r ≡ heapReadAnswer b place offset size ⌝ }
+    ensures { λ _. ⌜ now (output .exit) ≡ heapReadOutput b (now (heaps .entry)) (now (output .entry)) place offset size ⌝ }
+{
+    let running = b.running;
+    let refusal = heap_refusal(running, place, offset, size as usize);
+    if refusal != 0 {
+        return refused(refusal);
+    }
+    show(heaps, output, heap_byte(running, offset), size)
+}

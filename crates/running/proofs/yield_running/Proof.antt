@@ -1,0 +1,26 @@
+use borrow.Author.Needs.{needs}
+use borrow.Author.Tests.{eq-eqb, ne-eqb}
+use Rattle.ideal.specs.Step.{first}
+use Rattle.state.specs.Answers.{settled, answered}
+use Rattle.running.specs.Narrow.{yieldOn}
+use Rattle.running.proofs.yield_running.Statement.{statement}
+use Rattle.running.proofs.yield_running.Tie as tie
+
+refuse-requires : tie.Need-refuse-requires
+refuse-requires c κs = search needs
+
+returns : tie.Need-returns
+unfolding yieldOn first settled answered
+returns c =
+    rw (c .refuse .ensures, eq-eqb _ _ (c .before .if1 .taken))
+
+accepted-requires : tie.Need-accepted-requires
+accepted-requires c κs = search needs
+
+returns-2 : tie.Need-returns-2
+unfolding yieldOn first settled answered
+returns-2 c =
+    rw (c .accepted .ensures, ne-eqb _ _ (c .before .if1 .left))
+
+pub yield-running-spec : {M : Type 1} → statement M
+yield-running-spec = tie.close (tie.spec refuse-requires returns accepted-requires returns-2)

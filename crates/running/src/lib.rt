@@ -1,0 +1,63 @@
+// Start, yield and report: a place runs from its start until a yield or an exit.
+ghost use mathlib.Core.Path.{_≡_};
+ghost use Rattle.running.specs.Narrow.{refusedBox, startOn, yieldOn, reportOn};
+use ideal::BoxRecord;
+use state::Answer;
+use state::BoxAnswer;
+use state::accepted;
+use state::refused;
+
+// A refusal leaves the box record.
+pub fn refuse(b: BoxRecord, code: u8) -> BoxAnswer
+    ensures { λ r. ⌜ r ≡ refusedBox b code ⌝ }
+{
+    BoxAnswer {
+        held: b,
+        answer: refused(code),
+    }
+}
+
+pub fn start(b: BoxRecord, place: u8) -> BoxAnswer
+    ensures { λ r. ⌜ r ≡ startOn b place ⌝ }
+{
+    if b.running != 16 {
+        return refuse(b, 5);
+    }
+    if place > 15 {
+        return refuse(b, 6);
+    }
+    let p = place as usize;
+    if b.identities[p] == 0 {
+        return refuse(b, 7);
+    }
+    let mut next = b;
+    next.running = place;
+    BoxAnswer {
+        held: next,
+        answer: accepted(0),
+    }
+}
+
+// The heap is left as it is.
+pub fn yield_running(b: BoxRecord) -> BoxAnswer
+    ensures { λ r. ⌜ r ≡ yieldOn b ⌝ }
+{
+    if b.running == 16 {
+        return refuse(b, 4);
+    }
+    let mut next = b;
+    next.running = 16;
+    BoxAnswer {
+        held: next,
+        answer: accepted(0),
+    }
+}
+
+pub fn report(b: BoxRecord) -> Answer
+    ensures { λ r. ⌜ r ≡ reportOn b ⌝ }
+{
+    let log = b.log;
+    let escrow = b.escrow;
+    let services = u16::count_ones(b.taken);
+    accepted(services as u64 + 256 * (log.rows as u64) + 65536 * (escrow.rows as u64))
+}
