@@ -37,15 +37,16 @@ pub struct WrittenReply {
     pub length: usize,
 }
 
-// The lent rows of the log: whether they are 64, and then a copy of them.
+// The lent rows of the log: a copy of them, where they are 64. The table comes first: at another place in the struct it is
+// moved once more.
 pub struct LentLog {
-    pub whole: bool,
     pub table: LogTable,
+    pub whole: bool,
 }
 
 pub struct LentEscrow {
-    pub whole: bool,
     pub table: EscrowTable,
+    pub whole: bool,
 }
 
 // The row that a call adds to the log, if it adds one.
