@@ -1,6 +1,6 @@
 pub mod AddRow
 pub mod Arms
 pub mod Calling
-pub mod Grown
 pub mod Names
+pub mod NewRows
 pub mod ReadRows

@@ -3,13 +3,15 @@ use Prim.Native.Nat.{ℕ, _<_}
 use mathlib.Core.Path.{_≡_}
 use mathlib.Core.Bool.{Bool, true, false, cond}
 use mathlib.Core.List.{List}
-use lib.ListN.{length, getD, set}
-use lib.Dec.{eqb, ltb}
+use lib.ListN.{length, set}
+use lib.Dec.{eqb}
 use Rattle.ideal.specs.declared.BoxRecord.{BoxRecord}
 use Rattle.ideal.specs.declared.LogRow.{LogRow}
 use Rattle.ideal.specs.declared.EscrowRow.{EscrowRow}
 use Rattle.ideal.specs.Tables.{logTable, escrowTable}
-use Rattle.calls.specs.declared.Reply.{Reply}
+use Rattle.state.specs.declared.Added.{Added}
+use Rattle.state.specs.declared.Added.the-variants.{Nothing, Log, Escrow}
+use Rattle.calls.specs.declared.Change.{Change}
 use Rattle.calls.specs.Entry.{entryOn}
 use Rattle.caif.specs.declared.LentLog.{LentLog}
 use Rattle.caif.specs.declared.LentEscrow.{LentEscrow}
@@ -27,16 +29,16 @@ pub record RowsRead {Row : Type 0} (whole : Bool) (copy rows : List Row) : Type 
 
 -- ---- the row that a call adds
 
--- the row at `before`, where a table of `before` used rows has more after the call
-unfoldable pub newLogRow : (before after : ℕ) → (rows : List LogRow) → NewLogRow
-newLogRow before after rows =
-    cond (ltb before after) (record { added = true; at = before; row = getD rows before (logTable .blank) })
-    (record { added = false; at = 0; row = getD rows 0 (logTable .blank) })
+-- a row of the log goes to the first row that is not used before the call
+unfoldable pub newLogRow : BoxRecord → Added → NewLogRow
+newLogRow b Nothing = record { added = false; at = 0; row = logTable .blank }
+newLogRow b (Log row) = record { added = true; at = b .log .rows; row = row }
+newLogRow b (Escrow row) = record { added = false; at = 0; row = logTable .blank }
 
-unfoldable pub newEscrowRow : (before after : ℕ) → (rows : List EscrowRow) → NewEscrowRow
-newEscrowRow before after rows =
-    cond (ltb before after) (record { added = true; at = before; row = getD rows before (escrowTable .blank) })
-    (record { added = false; at = 0; row = getD rows 0 (escrowTable .blank) })
+unfoldable pub newEscrowRow : BoxRecord → Added → NewEscrowRow
+newEscrowRow b Nothing = record { added = false; at = 0; row = escrowTable .blank }
+newEscrowRow b (Log row) = record { added = false; at = 0; row = escrowTable .blank }
+newEscrowRow b (Escrow row) = record { added = true; at = b .escrow .rows; row = row }
 
 -- the rows with the new one, if there is one
 abbrev pub withRow : {Row : Type 0} → (added : Bool) → (at : ℕ) → Row → List Row → List Row
@@ -48,20 +50,14 @@ RowFits added at rows = added ≡ true → at < length rows
 
 -- ---- a call
 
--- of the reply with rows by value: the reply without them, and the rows added
-unfoldable pub calledOf : BoxRecord → Reply → Called
-calledOf b r =
+-- of what the call changes: the reply, and the rows added
+unfoldable pub calledOf : BoxRecord → Change → Called
+calledOf b c =
     record {
-      reply = record { held = r .held; code = r .code; number = r .number; used = r .used; shown = r .shown };
-      log = newLogRow (b .log .rows) (r .held .log .rows) (r .log .rows);
-      escrow = newEscrowRow (b .escrow .rows) (r .held .escrow .rows) (r .escrow .rows);
+      reply = record { held = c .held; code = c .code; number = c .number; used = c .used; shown = c .shown };
+      log = newLogRow b (c .added);
+      escrow = newEscrowRow b (c .added);
     }
-
--- the refusal of rows that are not 64
-pub record CalledOff (b : BoxRecord) (r : Called) : Type 0 where
-  pub reply : r .reply ≡ record { held = b; code = 15; number = 0; used = 0; shown = 0 }
-  pub log : r .log .added ≡ false
-  pub escrow : r .escrow .added ≡ false
 
 -- Whatever rows were read: with the rows added to them, the reply is the entry's result.
 pub record CalledOn (b : BoxRecord) (log : LentLog) (escrow : LentEscrow) (heaps shared logValues escrowValues output bytes : List ℕ)

@@ -1,17 +1,23 @@
 // A call on copied rows, and the row that it adds to each table.
 ghost use mathlib.Core.Path.{_≡_};
 ghost use mathlib.Core.Bool.{true, false};
-ghost use Prim.Native.Nat.{_<_};
-ghost use Rattle.caif.specs.Copied.{newLogRow, newEscrowRow, calledOf, CalledOff, CalledOn};
+ghost use Rattle.ideal.specs.Tables.{logTable, escrowTable};
+ghost use Rattle.calls.specs.Replies.{changeRefusal};
+ghost use Rattle.caif.specs.Copied.{newLogRow, newEscrowRow, calledOf, CalledOn};
 use crate::Called;
 use crate::LentEscrow;
 use crate::LentLog;
 use crate::LentReply;
 use crate::NewEscrowRow;
 use crate::NewLogRow;
-use calls::Reply;
-use calls::call;
+use calls::Change;
+use calls::call_change;
+use fnv::Tag;
 use ideal::BoxRecord;
+use ideal::EscrowRow;
+use ideal::LogRow;
+use record::Handle;
+use state::Added;
 use state::EscrowTable;
 use state::LogTable;
 use state::fresh_escrow;
@@ -49,95 +55,103 @@ pub fn no_escrow() -> LentEscrow
     }
 }
 
-// The row of a table whose used rows were `before` and are `after`: the one at `before`, where there are more.
-fn new_log_row(before: u16, after: u16, table: LogTable) -> NewLogRow
-    requires { ⌜ (before < after → before < 64) ⌝ }
-    ensures { λ r. ⌜ r ≡ newLogRow before after (table .rows) ⌝ }
+fn blank_log_row() -> LogRow
+    ensures { λ r. ⌜ r ≡ logTable .blank ⌝ }
 {
-    let rows = table.rows;
-    if before < after {
-        let at = before as usize;
-        let row = rows[at];
-        NewLogRow {
-            added: true,
-            at,
-            row,
-        }
-    } else {
-        let row = rows[0];
-        NewLogRow {
-            added: false,
-            at: 0,
-            row,
-        }
+    LogRow {
+        identity: 0,
+        tag: Tag(0),
+        first: 0,
+        length: 0,
     }
 }
 
-fn new_escrow_row(before: u16, after: u16, table: EscrowTable) -> NewEscrowRow
-    requires { ⌜ (before < after → before < 64) ⌝ }
-    ensures { λ r. ⌜ r ≡ newEscrowRow before after (table .rows) ⌝ }
+fn blank_escrow_row() -> EscrowRow
+    ensures { λ r. ⌜ r ≡ escrowTable .blank ⌝ }
 {
-    let rows = table.rows;
-    if before < after {
-        let at = before as usize;
-        let row = rows[at];
-        NewEscrowRow {
-            added: true,
-            at,
-            row,
-        }
-    } else {
-        let row = rows[0];
-        NewEscrowRow {
+    EscrowRow {
+        source: 0,
+        recipient: 0,
+        handle: Handle(0),
+        first: 0,
+        length: 0,
+    }
+}
+
+// The row that goes to the log, at the first row that is not used before the call.
+fn new_log_row(before: BoxRecord, added: Added) -> NewLogRow
+    ensures { λ r. ⌜ r ≡ newLogRow before added ⌝ }
+{
+    let Added::Log(row) = added else {
+        let row = blank_log_row();
+        return NewLogRow {
             added: false,
             at: 0,
             row,
-        }
+        };
+    };
+    let used = before.log;
+    NewLogRow {
+        added: true,
+        at: used.rows as usize,
+        row,
+    }
+}
+
+fn new_escrow_row(before: BoxRecord, added: Added) -> NewEscrowRow
+    ensures { λ r. ⌜ r ≡ newEscrowRow before added ⌝ }
+{
+    let Added::Escrow(row) = added else {
+        let row = blank_escrow_row();
+        return NewEscrowRow {
+            added: false,
+            at: 0,
+            row,
+        };
+    };
+    let used = before.escrow;
+    NewEscrowRow {
+        added: true,
+        at: used.rows as usize,
+        row,
+    }
+}
+
+// What the call changes in a host's rows, and its answer.
+fn called_of(before: BoxRecord, change: Change) -> Called
+    ensures { λ q. ⌜ q ≡ calledOf before change ⌝ }
+{
+    let held = change.held;
+    let added = change.added;
+    let log_row = new_log_row(before, added);
+    let escrow_row = new_escrow_row(before, added);
+    let reply = LentReply {
+        held,
+        code: change.code,
+        number: change.number,
+        used: change.used,
+        shown: change.shown,
+    };
+    Called {
+        reply,
+        log: log_row,
+        escrow: escrow_row,
     }
 }
 
 // The refusal of rows that are not 64.
-fn called_off(held: BoxRecord, log: LogTable, escrow: EscrowTable) -> Called
-    ensures { λ r. ⌜ CalledOff held r ⌝ }
+fn called_off(held: BoxRecord) -> Called
+    ensures { λ r. ⌜ r ≡ calledOf held (changeRefusal held 15 0) ⌝ }
 {
-    let reply = LentReply {
+    let change = Change {
         held,
+        added: Added::Nothing,
         code: 15,
         number: 0,
         used: 0,
         shown: 0,
     };
-    let log_row = new_log_row(0, 0, log);
-    let escrow_row = new_escrow_row(0, 0, escrow);
-    Called {
-        reply,
-        log: log_row,
-        escrow: escrow_row,
-    }
-}
-
-// The reply without its tables, and the rows that it adds to those of the box record before.
-fn called_of(before: BoxRecord, r: Reply) -> Called
-    requires { ⌜ (before .log .rows < r .held .log .rows → before .log .rows < 64) × (before .escrow .rows < r .held .escrow .rows → before .escrow .rows < 64) ⌝ }
-    ensures { λ q. ⌜ q ≡ calledOf before r ⌝ }
-{
-    let held = r.held;
-    let log = r.log;
-    let escrow = r.escrow;
-    let log_row = new_log_row(before.log.rows, held.log.rows, log);
-    let escrow_row = new_escrow_row(before.escrow.rows, held.escrow.rows, escrow);
-    let reply = LentReply {
-        held,
-        code: r.code,
-        number: r.number,
-        used: r.used,
-        shown: r.shown,
-    };
-    Called {
-        reply,
-        log: log_row,
-        escrow: escrow_row,
-    }
+    called_of(held, change)
 }
 
 // One record on the copied rows: refused where the lent rows were not 64.
@@ -160,12 +174,12 @@ pub fn call_copied(
     let log_table = log.table;
     let escrow_table = escrow.table;
     if !log.whole {
-        return called_off(held, log_table, escrow_table);
+        return called_off(held);
     }
     if !escrow.whole {
-        return called_off(held, log_table, escrow_table);
+        return called_off(held);
     }
-    let r = call(
+    let change = call_change(
         held,
         log_table,
         escrow_table,
@@ -176,5 +190,5 @@ pub fn call_copied(
         output,
         bytes,
     );
-    called_of(held, r)
+    called_of(held, change)
 }

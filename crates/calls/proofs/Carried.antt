@@ -1,6 +1,6 @@
 -- Each kind of call, from what its function leaves and answers: the laid-out step of the box's state. Assumes nothing.
 use Prim.Native.Nat.{ℕ}
-use mathlib.Core.Path.{_≡_}
+use mathlib.Core.Path.{_≡_, ap}
 use mathlib.Core.List.{List}
 use Rattle.fnv.specs.declared.Tag.{Tag}
 use Rattle.record.specs.declared.Draw.{Draw}
@@ -15,8 +15,8 @@ use Rattle.state.specs.declared.LogTable.{LogTable}
 use Rattle.state.specs.declared.EscrowTable.{EscrowTable}
 use Rattle.state.specs.declared.Answer.{Answer}
 use Rattle.state.specs.declared.BoxAnswer.{BoxAnswer}
-use Rattle.state.specs.declared.LogAnswer.{LogAnswer}
-use Rattle.state.specs.declared.EscrowAnswer.{EscrowAnswer}
+use Rattle.state.specs.declared.RowAnswer.{RowAnswer}
+use Rattle.state.specs.NewRow.{logRowsWith, escrowRowsWith, AddedFits}
 use Rattle.running.specs.Narrow.{startOn, yieldOn, reportOn}
 use Rattle.services.specs.Narrow.{createOn, exitOn, exitHeaps}
 use Rattle.shared.specs.Narrow.{sharedWriteAnswer, sharedWriteShared, sharedReadAnswer, sharedReadOutput}
@@ -27,10 +27,13 @@ use Rattle.escrow.specs.Narrow as escrow-part
 use Rattle.escrow.specs.Narrow.{protectOn}
 use Rattle.retrieval.specs.Narrow.{retrieveAnswer, retrieveHeaps}
 use Rattle.soundness.specs.Parts.{tablesOf}
-use Rattle.calls.specs.declared.Reply.{Reply}
+use Rattle.log.proofs.Bridge.{attest-fits}
+use Rattle.escrow.proofs.Bridge.{protect-fits}
+use Rattle.calls.specs.declared.Change.{Change}
 use Rattle.calls.specs.Entry.{resultOf, carriedOn}
-use Rattle.calls.specs.Replies.{replyAnswer, replyBox, replyLog, replyEscrow}
+use Rattle.calls.specs.Replies.{changeBox, changeRow, replyAnswer, replyOf}
 use Rattle.calls.proofs.ByKind.{byKind, by-kind}
+use Rattle.calls.proofs.Ready.{ready}
 
 module _
     {b : BoxRecord}
@@ -95,42 +98,46 @@ module _
 
     -- ---- kinds that alter the box record or a table
 
-    module _ (used : ℕ) {r : Reply} where
-      pub created : {p i : ℕ} {a : BoxAnswer} → called ≡ Create p i → r ≡ replyBox a log escrow used → a ≡ createOn b p i
-          → resultOf r heaps shared lv ev output
-          ≡ carriedOn (tablesOf b log escrow heaps shared lv ev) (callIn bytes called) used output
-      unfolding byKind
-      created e f g = by-kind s output bytes called used (rw (e, f, g))
+    -- with the buffers left, the laid-out step; and a row is added only where one is not used
+    abbrev Carries : ℕ → Change → (heaps shared logValues escrowValues output : List ℕ) → Type 0
+    Carries used r heaps′ shared′ lv′ ev′ output′ =
+        (resultOf (replyOf b log escrow r) heaps′ shared′ lv′ ev′ output′
+        ≡ carriedOn (tablesOf b log escrow heaps shared lv ev) (callIn bytes called) used output)
+        × AddedFits b (r .added)
 
-      pub started : {p : ℕ} {a : BoxAnswer} → called ≡ Start p → r ≡ replyBox a log escrow used → a ≡ startOn b p
-          → resultOf r heaps shared lv ev output
-          ≡ carriedOn (tablesOf b log escrow heaps shared lv ev) (callIn bytes called) used output
-      unfolding byKind
-      started e f g = by-kind s output bytes called used (rw (e, f, g))
+    module _ (used : ℕ) {r : Change} where
+      pub created : {p i : ℕ} {a : BoxAnswer} → called ≡ Create p i → r ≡ changeBox a used → a ≡ createOn b p i
+          → Carries used r heaps shared lv ev output
+      unfolding byKind logRowsWith escrowRowsWith AddedFits
+      created e f g = (by-kind s output bytes called used (rw (e, f, g)), rw f tt)
 
-      pub yielded : {a : BoxAnswer} → called ≡ Yield → r ≡ replyBox a log escrow used → a ≡ yieldOn b
-          → resultOf r heaps shared lv ev output
-          ≡ carriedOn (tablesOf b log escrow heaps shared lv ev) (callIn bytes called) used output
-      unfolding byKind
-      yielded e f g = by-kind s output bytes called used (rw (e, f, g))
+      pub started : {p : ℕ} {a : BoxAnswer} → called ≡ Start p → r ≡ changeBox a used → a ≡ startOn b p
+          → Carries used r heaps shared lv ev output
+      unfolding byKind logRowsWith escrowRowsWith AddedFits
+      started e f g = (by-kind s output bytes called used (rw (e, f, g)), rw f tt)
 
-      pub exited : {a : BoxAnswer} {left : List ℕ} → called ≡ Exit → r ≡ replyBox a log escrow used → a ≡ exitOn b
-          → left ≡ exitHeaps b heaps
-          → resultOf r left shared lv ev output
-          ≡ carriedOn (tablesOf b log escrow heaps shared lv ev) (callIn bytes called) used output
-      unfolding byKind
-      exited e f g h = by-kind s output bytes called used (rw (e, f, g, h))
+      pub yielded : {a : BoxAnswer} → called ≡ Yield → r ≡ changeBox a used → a ≡ yieldOn b → Carries used r heaps shared lv ev output
+      unfolding byKind logRowsWith escrowRowsWith AddedFits
+      yielded e f g = (by-kind s output bytes called used (rw (e, f, g)), rw f tt)
 
-      pub attested : {o k : ℕ} {a : LogAnswer} {left : List ℕ} → called ≡ Attest o k → r ≡ replyLog a escrow used
-          → log-part.resultOf a left ≡ attestOn b (log .rows) heaps lv o k
-          → resultOf r heaps shared left ev output
-          ≡ carriedOn (tablesOf b log escrow heaps shared lv ev) (callIn bytes called) used output
-      unfolding byKind
-      attested e f g = by-kind s output bytes called used (rw (e, f, ← g))
+      pub exited : {a : BoxAnswer} {left : List ℕ} → called ≡ Exit → r ≡ changeBox a used → a ≡ exitOn b → left ≡ exitHeaps b heaps
+          → Carries used r left shared lv ev output
+      unfolding byKind logRowsWith escrowRowsWith AddedFits
+      exited e f g h = (by-kind s output bytes called used (rw (e, f, g, h)), rw f tt)
 
-      pub protected : {i o k : ℕ} {d : Draw} {a : EscrowAnswer} {left : List ℕ} → called ≡ Protect i o k d → r ≡ replyEscrow a log used
-          → escrow-part.resultOf a left ≡ protectOn b (escrow .rows) heaps ev i o k d
-          → resultOf r heaps shared lv left output
-          ≡ carriedOn (tablesOf b log escrow heaps shared lv ev) (callIn bytes called) used output
+      pub attested : {o k : ℕ} {a : RowAnswer} {left : List ℕ} → called ≡ Attest o k → r ≡ changeRow a used
+          → log-part.resultOf a left ≡ attestOn b (log .rows) heaps lv o k → Carries used r heaps shared left ev output
       unfolding byKind
-      protected e f g = by-kind s output bytes called used (rw (e, f, ← g))
+      attested {o} {k} e f g = (
+        by-kind s output bytes called used (rw (e, f, ← g)),
+        rw (f, ap (λ (x : log-part.LogResult). x .added) g) (attest-fits b (log .rows) heaps lv o k (ready s .log .few)),
+      )
+
+      pub protected : {i o k : ℕ} {d : Draw} {a : RowAnswer} {left : List ℕ} → called ≡ Protect i o k d → r ≡ changeRow a used
+          → escrow-part.resultOf a left ≡ protectOn b (escrow .rows) heaps ev i o k d → Carries used r heaps shared lv left output
+      unfolding byKind
+      protected {i} {o} {k} {d} e f g = (
+        by-kind s output bytes called used (rw (e, f, ← g)),
+        rw (f, ap (λ (x : escrow-part.EscrowResult). x .added) g)
+            (protect-fits b (escrow .rows) heaps ev i o k d (ready s .runs) (ready s .escrow .few)),
+      )

@@ -18,13 +18,36 @@ use Rattle.ideal.specs.Box.{laid, unsound, callOn, outputAfter}
 use Rattle.ideal.specs.Layouts.{Sound}
 use Rattle.ideal.proofs.Bools.{and-left, and-right}
 use Rattle.ideal.proofs.Laid.{tables-state}
-use Rattle.soundness.specs.Parts.{Lent}
-use Rattle.calls.specs.Entry.{EntryResult, resultOn, entryOn, readyOn, soundOn, carriedOn}
+use Rattle.ideal.specs.declared.BoxRecord.{BoxRecord}
+use Rattle.state.specs.declared.LogTable.{LogTable}
+use Rattle.state.specs.declared.EscrowTable.{EscrowTable}
+use Rattle.state.specs.declared.Added.the-variants.{Nothing}
+use Rattle.state.specs.declared.Answer.{Answer}
+use Rattle.state.specs.NewRow.{logRowsWith, escrowRowsWith, AddedFits}
+use Rattle.soundness.specs.Parts.{tablesOf, Lent}
+use Rattle.calls.specs.declared.Change.{Change}
+use Rattle.calls.specs.Replies.{changeAnswer, changeRefusal, replyAnswer, replyOf}
+use Rattle.calls.specs.Entry.{EntryResult, resultOf, resultOn, entryOn, readyOn, soundOn, carriedOn}
 
 -- a refusal that comes before any call
 abbrev pub refusedOn : Tables → (code number : ℕ) → (output : List ℕ) → EntryResult
 refusedOn t code number output =
     record { tables = t; code = code; number = number; used = 0; shown = 0; output = output }
+
+-- its code changes nothing, and adds no row
+module _ {b : BoxRecord} {log : LogTable} {escrow : EscrowTable} {heaps shared lv ev output : List ℕ} {r : Change} {x : EntryResult} where
+  pub nothing-changed : {code number : ℕ} → r ≡ changeRefusal b code number
+      → refusedOn (tablesOf b log escrow heaps shared lv ev) code number output ≡ x
+      → (resultOf (replyOf b log escrow r) heaps shared lv ev output ≡ x) × AddedFits b (r .added)
+  unfolding logRowsWith escrowRowsWith AddedFits
+  nothing-changed e h = (rw e h, rw e tt)
+
+  -- nor does that of a call with an answer alone
+  pub no-row-added : {a : Answer} {used : ℕ} → r ≡ changeAnswer b Nothing a used
+      → resultOf (replyAnswer b log escrow a used) heaps shared lv ev output ≡ x
+      → (resultOf (replyOf b log escrow r) heaps shared lv ev output ≡ x) × AddedFits b (r .added)
+  unfolding logRowsWith escrowRowsWith AddedFits
+  no-row-added e h = (rw e h, rw e tt)
 
 -- ---- what the reader finds
 

@@ -1,28 +1,50 @@
--- The replies that the answers of the parts of the box make.
+-- What a call changes, by the answers of the parts of the box, and the replies with whole tables.
 use Prim.Native.Nat.{ℕ}
 use Rattle.ideal.specs.declared.BoxRecord.{BoxRecord}
 use Rattle.state.specs.declared.LogTable.{LogTable}
 use Rattle.state.specs.declared.EscrowTable.{EscrowTable}
+use Rattle.state.specs.declared.Added.{Added}
+use Rattle.state.specs.declared.Added.the-variants.{Nothing}
 use Rattle.state.specs.declared.Answer.{Answer}
 use Rattle.state.specs.declared.BoxAnswer.{BoxAnswer}
-use Rattle.state.specs.declared.LogAnswer.{LogAnswer}
-use Rattle.state.specs.declared.EscrowAnswer.{EscrowAnswer}
+use Rattle.state.specs.declared.RowAnswer.{RowAnswer}
+use Rattle.state.specs.NewRow.{logWith, escrowWith}
+use Rattle.calls.specs.declared.Change.{Change}
 use Rattle.calls.specs.declared.Reply.{Reply}
 
+-- ---- what a call changes
+
+abbrev pub changeAnswer : BoxRecord → Added → Answer → (used : ℕ) → Change
+changeAnswer b added a used =
+    record { held = b; added = added; code = a .code; number = a .number; used = used; shown = a .shown }
+
+-- no byte is used or shown
+abbrev pub changeRefusal : BoxRecord → (code number : ℕ) → Change
+changeRefusal b code number =
+    record { held = b; added = Nothing; code = code; number = number; used = 0; shown = 0 }
+
+abbrev pub changeBox : BoxAnswer → (used : ℕ) → Change
+changeBox r used = changeAnswer (r .held) Nothing (r .answer) used
+
+abbrev pub changeRow : RowAnswer → (used : ℕ) → Change
+changeRow r used = changeAnswer (r .held) (r .added) (r .answer) used
+
+-- ---- replies
+
+-- of the box record and the tables that came in, and what the call changes
+abbrev pub replyOf : BoxRecord → LogTable → EscrowTable → Change → Reply
+replyOf b log escrow c =
+    record {
+      held = c .held;
+      log = logWith b (c .added) log;
+      escrow = escrowWith b (c .added) escrow;
+      code = c .code;
+      number = c .number;
+      used = c .used;
+      shown = c .shown;
+    }
+
+-- of a call that alters neither the box record nor a table
 abbrev pub replyAnswer : BoxRecord → LogTable → EscrowTable → Answer → (used : ℕ) → Reply
 replyAnswer b log escrow a used =
     record { held = b; log = log; escrow = escrow; code = a .code; number = a .number; used = used; shown = a .shown }
-
--- no byte is used or shown
-abbrev pub replyRefusal : BoxRecord → LogTable → EscrowTable → (code number : ℕ) → Reply
-replyRefusal b log escrow code number =
-    record { held = b; log = log; escrow = escrow; code = code; number = number; used = 0; shown = 0 }
-
-abbrev pub replyBox : BoxAnswer → LogTable → EscrowTable → (used : ℕ) → Reply
-replyBox r log escrow used = replyAnswer (r .held) log escrow (r .answer) used
-
-abbrev pub replyLog : LogAnswer → EscrowTable → (used : ℕ) → Reply
-replyLog r escrow used = replyAnswer (r .held) (r .log) escrow (r .answer) used
-
-abbrev pub replyEscrow : EscrowAnswer → LogTable → (used : ℕ) → Reply
-replyEscrow r log used = replyAnswer (r .held) log (r .escrow) (r .answer) used

@@ -1,29 +1,26 @@
-// Replies, from what the call on a part of the box answers.
+// What a call changes, from what the call on a part of the box answers, and the reply with whole tables.
 ghost use mathlib.Core.Path.{_≡_};
-ghost use Rattle.calls.specs.Replies.{replyRefusal, replyAnswer, replyBox, replyLog, replyEscrow};
+ghost use Rattle.state.specs.NewRow.{AddedFits};
+ghost use Rattle.calls.specs.Replies.{changeRefusal, changeAnswer, changeBox, changeRow, replyOf};
+use crate::Change;
 use crate::Reply;
 use ideal::BoxRecord;
+use state::Added;
 use state::Answer;
 use state::BoxAnswer;
-use state::EscrowAnswer;
 use state::EscrowTable;
-use state::LogAnswer;
 use state::LogTable;
+use state::RowAnswer;
+use state::escrow_with;
+use state::log_with;
 
 // A refusal that comes before any call: no byte is used, none is shown, and nothing is altered.
-pub fn reply_refusal(
-    b: BoxRecord,
-    log: LogTable,
-    escrow: EscrowTable,
-    code: u8,
-    number: u64,
-) -> Reply
-    ensures { λ r. ⌜ r ≡ replyRefusal b log escrow code number ⌝ }
+pub fn change_refusal(b: BoxRecord, code: u8, number: u64) -> Change
+    ensures { λ r. ⌜ r ≡ changeRefusal b code number ⌝ }
 {
-    Reply {
+    Change {
         held: b,
-        log,
-        escrow,
+        added: Added::Nothing,
         code,
         number,
         used: 0,
@@ -31,19 +28,12 @@ pub fn reply_refusal(
     }
 }
 
-pub fn reply_answer(
-    b: BoxRecord,
-    log: LogTable,
-    escrow: EscrowTable,
-    answer: Answer,
-    used: usize,
-) -> Reply
-    ensures { λ r. ⌜ r ≡ replyAnswer b log escrow answer used ⌝ }
+pub fn change_answer(b: BoxRecord, added: Added, answer: Answer, used: usize) -> Change
+    ensures { λ r. ⌜ r ≡ changeAnswer b added answer used ⌝ }
 {
-    Reply {
+    Change {
         held: b,
-        log,
-        escrow,
+        added,
         code: answer.code,
         number: answer.number,
         used,
@@ -51,28 +41,39 @@ pub fn reply_answer(
     }
 }
 
-pub fn reply_box(from: BoxAnswer, log: LogTable, escrow: EscrowTable, used: usize) -> Reply
-    ensures { λ r. ⌜ r ≡ replyBox from log escrow used ⌝ }
+pub fn change_box(from: BoxAnswer, used: usize) -> Change
+    ensures { λ r. ⌜ r ≡ changeBox from used ⌝ }
 {
     let held = from.held;
     let answer = from.answer;
-    reply_answer(held, log, escrow, answer, used)
+    change_answer(held, Added::Nothing, answer, used)
 }
 
-pub fn reply_log(from: LogAnswer, escrow: EscrowTable, used: usize) -> Reply
-    ensures { λ r. ⌜ r ≡ replyLog from escrow used ⌝ }
+pub fn change_row(from: RowAnswer, used: usize) -> Change
+    ensures { λ r. ⌜ r ≡ changeRow from used ⌝ }
 {
     let held = from.held;
-    let log = from.log;
+    let added = from.added;
     let answer = from.answer;
-    reply_answer(held, log, escrow, answer, used)
+    change_answer(held, added, answer, used)
 }
 
-pub fn reply_escrow(from: EscrowAnswer, log: LogTable, used: usize) -> Reply
-    ensures { λ r. ⌜ r ≡ replyEscrow from log used ⌝ }
+// The one place where the row that a call adds goes into tables by value.
+pub fn reply_of(b: BoxRecord, log: LogTable, escrow: EscrowTable, change: Change) -> Reply
+    requires { ⌜ AddedFits b (change .added) ⌝ }
+    ensures { λ r. ⌜ r ≡ replyOf b log escrow change ⌝ }
 {
-    let held = from.held;
-    let escrow = from.escrow;
-    let answer = from.answer;
-    reply_answer(held, log, escrow, answer, used)
+    let held = change.held;
+    let added = change.added;
+    let log_after = log_with(b, log, added);
+    let escrow_after = escrow_with(b, escrow, added);
+    Reply {
+        held,
+        log: log_after,
+        escrow: escrow_after,
+        code: change.code,
+        number: change.number,
+        used: change.used,
+        shown: change.shown,
+    }
 }

@@ -6,13 +6,13 @@ ghost use Rattle.record.specs.Meaning.{bytesIn, callIn, PartWithin, CallWithin}
 ghost use Rattle.ideal.specs.Layouts.{Sound};
 ghost use Rattle.soundness.specs.Parts.{tablesOf};
 ghost use Rattle.calls.specs.Entry.{resultOf, carriedOn};
-ghost use Rattle.calls.specs.Replies.{replyAnswer};
+ghost use Rattle.state.specs.NewRow.{AddedFits};
+ghost use Rattle.calls.specs.Replies.{replyAnswer, replyOf};
 ghost use Rattle.calls.specs.Alone.{Alone};
-use crate::Reply;
-use crate::answers::reply_answer;
-use crate::answers::reply_box;
-use crate::answers::reply_escrow;
-use crate::answers::reply_log;
+use crate::Change;
+use crate::answers::change_answer;
+use crate::answers::change_box;
+use crate::answers::change_row;
 use escrow::protect;
 use heap::heap_read;
 use heap::heap_write;
@@ -29,6 +29,7 @@ use services::create;
 use services::exit_running;
 use shared::shared_read;
 use shared::shared_write;
+use state::Added;
 use state::Answer;
 use state::EscrowTable;
 use state::LogTable;
@@ -111,30 +112,26 @@ pub fn carry_out(
     bytes: &[u8],
     called: Call,
     used: usize,
-) -> Reply
+) -> Change
     requires { ⌜
         Sound (tablesOf b log escrow (now heaps) (now shared) (now «log_values») (now «escrow_values»)) (length (now output))
         ⌝ }
     requires { ⌜ CallWithin (now bytes) called ⌝ }
     ensures { λ r. ⌜
-        resultOf r (now (heaps .exit)) (now (shared .exit)) (now («log_values» .exit)) (now («escrow_values» .exit)) (now (output .exit))
+        resultOf (replyOf b log escrow r) (now (heaps .exit)) (now (shared .exit)) (now («log_values» .exit)) (now («escrow_values» .exit)) (now (output .exit))
         ≡ carriedOn (tablesOf b log escrow (now (heaps .entry)) (now (shared .entry)) (now («log_values» .entry)) (now («escrow_values» .entry)))
         (callIn (now (bytes .entry)) called) used (now (output .entry))
         ⌝ }
+    ensures { λ r. ⌜ AddedFits b (r .added) ⌝ }
 {
     match called {
-        Call::Create { place, identity } => reply_box(
-            create(b, place, identity),
-            log,
-            escrow,
-            used,
-        ),
-        Call::Start { place } => reply_box(start(b, place), log, escrow, used),
-        Call::Yield => reply_box(yield_running(b), log, escrow, used),
-        Call::Exit => reply_box(exit_running(b, heaps), log, escrow, used),
+        Call::Create { place, identity } => change_box(create(b, place, identity), used),
+        Call::Start { place } => change_box(start(b, place), used),
+        Call::Yield => change_box(yield_running(b), used),
+        Call::Exit => change_box(exit_running(b, heaps), used),
         Call::Attest { offset, length } => {
             let a = attest(b, log, heaps, log_values, offset, length);
-            reply_log(a, escrow, used)
+            change_row(a, used)
         }
         Call::Protect {
             identity: to,
@@ -143,7 +140,7 @@ pub fn carry_out(
             draw,
         } => {
             let a = protect(b, escrow, heaps, escrow_values, to, offset, length, draw);
-            reply_escrow(a, log, used)
+            change_row(a, used)
         }
         _ => {
             let a = answer_alone(
@@ -158,7 +155,7 @@ pub fn carry_out(
                 bytes,
                 called,
             );
-            reply_answer(b, log, escrow, a, used)
+            change_answer(b, Added::Nothing, a, used)
         }
     }
 }

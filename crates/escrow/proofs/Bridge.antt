@@ -25,6 +25,7 @@ use Rattle.state.specs.Answers.{settled}
 use Rattle.state.proofs.Settled.{answerOf, settledResult, Moves, laid-step}
 use Rattle.escrow.specs.Narrow.{EscrowFits, callerOf, heapByte, escrowOf, EscrowResult, moreEscrow, protectUnless, protectRefusal, protectOn}
 use Rattle.state.specs.Counts.{fullBy, Room}
+use Rattle.state.specs.NewRow.{logRowsWith, escrowRowsWith, AddedFits}
 use Rattle.state.proofs.Rooms.{has-room}
 
 -- what protect and retrieve require of the escrow, of a sound one
@@ -57,7 +58,21 @@ protects b i o n d r l e =
       room = has-room (b .escrow) n l (failed 13 (fullBy (b .escrow) n) _ e₄);
     }
 
--- ---- the host's tables with the parts of the escrow replaced
+-- ---- a protect adds a row only where one is not used
+
+protected-fits : (r : ℕ) (b : BoxRecord) (rows : List EscrowRow) (values : List ℕ) (i j : ℕ) (d : Draw) (v : List ℕ)
+    → (r ≡ 0 → b .escrow .rows < 64) → AddedFits b (protectUnless r b rows values i j d v .added)
+unfolding protectUnless settled moreEscrow AddedFits
+protected-fits zero b rows values i j d v h = h refl
+protected-fits (suc r) b rows values i j d v h = tt
+
+pub protect-fits : (b : BoxRecord) (rows : List EscrowRow) (heaps values : List ℕ) (i o n : ℕ) (d : Draw) → b .running ≤ 16
+    → b .escrow .rows ≤ 64 → AddedFits b (protectOn b rows heaps values i o n d .added)
+unfolding protectOn
+protect-fits b rows heaps values i o n d runs few =
+    protected-fits _ b rows values _ _ _ _ (λ e. protects b i o n d runs few e .room .row)
+
+-- ---- the host's tables with the row added, and the other parts of the escrow replaced
 
 abbrev pub replaceEscrow : Tables → EscrowResult → Tables
 replaceEscrow t r =
@@ -65,9 +80,9 @@ replaceEscrow t r =
       box = r .held;
       heaps = t .heaps;
       shared = t .shared;
-      logRows = t .logRows;
+      logRows = logRowsWith (t .box) (r .added) (t .logRows);
       logValues = t .logValues;
-      escrowRows = r .rows;
+      escrowRows = escrowRowsWith (t .box) (r .added) (t .escrowRows);
       escrowValues = r .values;
     }
 
@@ -76,12 +91,12 @@ abbrev pub onEscrow : Tables → EscrowResult → ℕ → Result
 onEscrow t r used = record { tables = replaceEscrow t r; answer = answerOf (r .answer) used [] }
 
 abbrev withMore : Tables → EscrowKey → List ℕ → Tables
-withMore t k v = replaceEscrow t (moreEscrow (t .box) (t .escrowRows) (t .escrowValues) k v)
+withMore t k v = replaceEscrow t (moreEscrow (t .box) (t .escrowValues) k v)
 
 -- one entry more
 added : (s : State) (x : Escrowed) → Room (usedBy (s .escrow)) (length (x .value))
     → tables (withEscrow s (s .escrow ++ (x ∷ []))) ≡ withMore (tables s) (x .key) (x .value)
-unfolding tables boxRecord withEscrow moreEscrow
+unfolding tables boxRecord withEscrow moreEscrow logRowsWith escrowRowsWith
 added s x room = λ j.
     record {
       box =
@@ -160,7 +175,7 @@ module _ (t : Tables) (k : Valid (stateOf t)) (e : tables (stateOf t) ≡ t) whe
 
     protect-settled : (r used : ℕ) → settledResult r t (withMore t key value) (key .handle .0) [] used
         ≡ onEscrow t (protectUnless r (t .box) (t .escrowRows) (t .escrowValues) (callerOf (t .box)) i d value) used
-    unfolding protectUnless moreEscrow settled
+    unfolding protectUnless moreEscrow settled logRowsWith escrowRowsWith
     protect-settled zero used = refl
     protect-settled (suc r) used = refl
 

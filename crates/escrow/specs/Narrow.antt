@@ -2,7 +2,7 @@
 use Prim.Native.Nat.{ℕ, _+_, _*_, _^_, _≤_}
 use mathlib.Core.Path.{_≡_}
 use mathlib.Core.List.{List}
-use lib.ListN.{length, getD, take, set}
+use lib.ListN.{length, getD, take}
 use lib.Seq.{sets}
 use lib.Dec.{eqb, leb}
 use Rattle.record.specs.declared.Draw.{Draw}
@@ -14,7 +14,9 @@ use Rattle.ideal.specs.Step.{freeHandle, accept, _then_, first, beyond}
 use Rattle.ideal.specs.Tables.{escrowTable, entriesOf}
 use Rattle.ideal.specs.Fit.{RowsFit}
 use Rattle.state.specs.declared.Answer.{Answer}
-use Rattle.state.specs.declared.EscrowAnswer.{EscrowAnswer}
+use Rattle.state.specs.declared.Added.{Added}
+use Rattle.state.specs.declared.Added.the-variants.{Nothing, Escrow}
+use Rattle.state.specs.declared.RowAnswer.{RowAnswer}
 use Rattle.state.specs.Counts.{fullBy}
 use Rattle.state.specs.Answers.{refusedWith, acceptedWith, settled}
 
@@ -44,20 +46,20 @@ escrowOf b rows values = entriesOf escrowTable values (take (b .escrow .rows) ro
 
 pub record EscrowResult : Type 0 where
   pub held : BoxRecord
-  pub rows : List EscrowRow
+  pub added : Added
   pub values : List ℕ
   pub answer : Answer
 
 -- an answer with the value bytes at exit
-abbrev pub resultOf : EscrowAnswer → List ℕ → EscrowResult
-resultOf r values = record { held = r .held; rows = r .escrow .rows; values = values; answer = r .answer }
+abbrev pub resultOf : RowAnswer → List ℕ → EscrowResult
+resultOf r values = record { held = r .held; added = r .added; values = values; answer = r .answer }
 
-abbrev pub keptEscrow : BoxRecord → List EscrowRow → List ℕ → Answer → EscrowResult
-keptEscrow b rows values answer = record { held = b; rows = rows; values = values; answer = answer }
+abbrev pub keptEscrow : BoxRecord → List ℕ → Answer → EscrowResult
+keptEscrow b values answer = record { held = b; added = Nothing; values = values; answer = answer }
 
 -- one row and its value more
-unfoldable pub moreEscrow : BoxRecord → List EscrowRow → List ℕ → EscrowKey → List ℕ → EscrowResult
-moreEscrow b rows values k v =
+unfoldable pub moreEscrow : BoxRecord → List ℕ → EscrowKey → List ℕ → EscrowResult
+moreEscrow b values k v =
     let used = b .escrow in
     record {
       held =
@@ -68,7 +70,7 @@ moreEscrow b rows values k v =
             log = b .log;
             escrow = record { rows = used .rows + 1; bytes = used .bytes + length v };
           };
-      rows = set rows (used .rows) (escrowTable .row k (used .bytes) (length v));
+      added = Escrow (escrowTable .row k (used .bytes) (length v));
       values = sets values (used .bytes) v;
       answer = acceptedWith (k .handle .0);
     }
@@ -78,8 +80,8 @@ unfoldable pub protectUnless : (refusal : ℕ) → BoxRecord → List EscrowRow 
     → (value : List ℕ) → EscrowResult
 protectUnless refusal b rows values source recipient d v =
     let handle = freeHandle (length v) d (escrowOf b rows values) in
-    settled refusal (keptEscrow b rows values (refusedWith refusal))
-    (moreEscrow b rows values (record { source = source; recipient = recipient; handle = handle }) v)
+    settled refusal (keptEscrow b values (refusedWith refusal))
+    (moreEscrow b values (record { source = source; recipient = recipient; handle = handle }) v)
 
 -- the last two of protect's tests alone
 unfoldable pub protectValue : BoxRecord → List EscrowRow → (values : List ℕ) → (source recipient : ℕ) → Draw

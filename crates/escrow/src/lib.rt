@@ -11,24 +11,24 @@ use ideal::EscrowRow;
 use ideal::Used;
 use record::Draw;
 use record::Handle;
-use state::EscrowAnswer;
+use state::Added;
 use state::EscrowTable;
+use state::RowAnswer;
 use state::accepted;
 use state::is_full;
 use state::refused;
 
-// The escrow with one row and its value more.
+// One row and its value more.
 fn escrow_more(
     b: BoxRecord,
-    escrow: EscrowTable,
     values: &mut [u8],
     source: u64,
     recipient: u64,
     handle: Handle,
     value: &[u8],
-) -> EscrowAnswer
+) -> RowAnswer
     requires { ⌜ (length (now values) ≡ 4096) × Room (b .escrow) (length (now value)) ⌝ }
-    ensures { λ r. ⌜ resultOf r (now (values .exit)) ≡ moreEscrow b (escrow .rows) (now (values .entry)) (record { source = source; recipient = recipient; handle = handle }) (now (value .entry)) ⌝ }
+    ensures { λ r. ⌜ resultOf r (now (values .exit)) ≡ moreEscrow b (now (values .entry)) (record { source = source; recipient = recipient; handle = handle }) (now (value .entry)) ⌝ }
 {
     let used = b.escrow;
     let size = value.len() as u16;
@@ -40,18 +40,15 @@ fn escrow_more(
         first: used.bytes,
         length: size,
     };
-    let i = used.rows as usize;
-    let mut more = escrow;
-    more.rows[i] = row;
     let raised = Used {
         rows: used.rows + 1,
         bytes: used.bytes + size,
     };
     let mut next = b;
     next.escrow = raised;
-    EscrowAnswer {
+    RowAnswer {
         held: next,
-        escrow: more,
+        added: Added::Escrow(row),
         answer: accepted(handle.0),
     }
 }
@@ -65,28 +62,28 @@ fn protect_value(
     recipient: u64,
     draw: Draw,
     value: &[u8],
-) -> EscrowAnswer
+) -> RowAnswer
     requires { ⌜ (b .escrow .rows ≤ 64) × (length (now values) ≡ 4096) × (length (now value) ≤ 256) ⌝ }
     ensures { λ r. ⌜ resultOf r (now (values .exit)) ≡ protectValue b (escrow .rows) (now (values .entry)) source recipient draw (now (value .entry)) ⌝ }
 {
     if draw.0 >= 281474976710656 {
-        return EscrowAnswer {
+        return RowAnswer {
             held: b,
-            escrow,
+            added: Added::Nothing,
             answer: refused(12),
         };
     }
     let used = b.escrow;
     if is_full(used, value.len()) {
-        return EscrowAnswer {
+        return RowAnswer {
             held: b,
-            escrow,
+            added: Added::Nothing,
             answer: refused(14),
         };
     }
     let rows = escrow.rows;
     let handle = free_handle(rows, used.rows as usize, value.len() as u16, draw);
-    escrow_more(b, escrow, values, source, recipient, handle, value)
+    escrow_more(b, values, source, recipient, handle, value)
 }
 
 // The value is the middle part of the heaps that the running place has at the offset.
@@ -99,28 +96,28 @@ pub fn protect(
     offset: u16,
     size: u16,
     draw: Draw,
-) -> EscrowAnswer
+) -> RowAnswer
     requires { ⌜ (b .running ≤ 16) × (length (now heaps) ≡ 4096) × EscrowFits (b .escrow) (escrow .rows) (now values) ⌝ }
     ensures { λ r. ⌜ resultOf r (now (values .exit)) ≡ protectOn b (escrow .rows) (now (heaps .entry)) (now (values .entry)) recipient offset size draw ⌝ }
 {
     if b.running == 16 {
-        return EscrowAnswer {
+        return RowAnswer {
             held: b,
-            escrow,
+            added: Added::Nothing,
             answer: refused(4),
         };
     }
     if recipient == 0 {
-        return EscrowAnswer {
+        return RowAnswer {
             held: b,
-            escrow,
+            added: Added::Nothing,
             answer: refused(9),
         };
     }
     if offset as usize + size as usize > 256 {
-        return EscrowAnswer {
+        return RowAnswer {
             held: b,
-            escrow,
+            added: Added::Nothing,
             answer: refused(11),
         };
     }

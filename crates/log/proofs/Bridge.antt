@@ -1,5 +1,5 @@
 -- What attest and check do to the tables of a valid state is the laid-out step of that state. Assumes nothing.
-use Prim.Native.Nat.{ℕ, zero, suc, _+_, _*_, _≤_}
+use Prim.Native.Nat.{ℕ, zero, suc, _+_, _*_, _≤_, _<_}
 use mathlib.Core.Path.{_≡_, refl, sym, ap, _∙_}
 use mathlib.Core.Bool.{false, not, _&&_}
 use mathlib.Core.List.{List, [], _∷_, _++_}
@@ -20,6 +20,7 @@ use Rattle.ideal.specs.Soundness.{hasIdentity}
 use Rattle.ideal.specs.Box.{Result, laid}
 use Rattle.ideal.proofs.Bools.{by-cases, and-right, and-other, not-is}
 use Rattle.ideal.specs.Valid.{Valid}
+use Rattle.ideal.proofs.Chain.{failed, passed}
 use Rattle.ideal.proofs.Kept.{own-size, busy}
 use Rattle.ideal.proofs.Table.{Stands, entries-back, log-lawful}
 use Rattle.ideal.proofs.Facts.{log-tests}
@@ -30,6 +31,7 @@ use Rattle.state.specs.Answers.{settled, answered}
 use Rattle.state.proofs.Settled.{answerOf}
 use Rattle.log.specs.Narrow.{LogFits, LogResult, logOf, moreLog, attested, attestOn, checkOn}
 use Rattle.state.specs.Counts.{Room, fullBy}
+use Rattle.state.specs.NewRow.{logRowsWith, escrowRowsWith, AddedFits}
 use Rattle.state.proofs.Rooms.{has-room}
 use Rattle.pairs.proofs.Pairs.{paired-logged}
 
@@ -38,7 +40,7 @@ pub log-fits : {rows : List LogRow} {values : List ℕ} {used : Used} → Stands
 log-fits {rows} {values} {used} s =
     record { few = s .few; size = s .value-count; fit = rows-fit logTable rows values used s }
 
--- the host's tables with the parts of the log replaced, and the whole answer
+-- the host's tables with the row added and the other parts of the log replaced, and the whole answer
 abbrev pub onLog : Tables → LogResult → ℕ → Result
 onLog t r used =
     record {
@@ -47,9 +49,9 @@ onLog t r used =
             box = r .held;
             heaps = t .heaps;
             shared = t .shared;
-            logRows = r .rows;
+            logRows = logRowsWith (t .box) (r .added) (t .logRows);
             logValues = r .values;
-            escrowRows = t .escrowRows;
+            escrowRows = escrowRowsWith (t .box) (r .added) (t .escrowRows);
             escrowValues = t .escrowValues;
           };
       answer = answerOf (r .answer) used [];
@@ -58,8 +60,8 @@ onLog t r used =
 -- one entry more
 added : (s : State) (e : Logged) (used : ℕ) → Room (tables s .box .log) (length (e .value))
     → laid (record { state = withLog s (s .log ++ (e ∷ [])); answer = record { code = 0; number = e .key .tag .0; used = used; shown = [] } })
-    ≡ onLog (tables s) (moreLog (tables s .box) (tables s .logRows) (tables s .logValues) (e .key .identity) (e .key .tag) (e .value)) used
-unfolding laid withLog tables boxRecord moreLog
+    ≡ onLog (tables s) (moreLog (tables s .box) (tables s .logValues) (e .key .identity) (e .key .tag) (e .value)) used
+unfolding laid withLog tables boxRecord moreLog logRowsWith escrowRowsWith
 added s e used room = λ j.
     record {
       tables =
@@ -94,7 +96,7 @@ module _ (s : State) (k : Valid s) (o n used : ℕ) where
   leaves r v = onLog t (attested r (t .box) (t .logRows) (t .logValues) (caller s) (tagOf (caller s) v) v) used
 
   refused : (m : ℕ) (v : List ℕ) → laid (settle (suc m) s c used) ≡ leaves (suc m) v
-  unfolding laid settle refuse refusedAnswer attested settled
+  unfolding laid settle refuse refusedAnswer attested settled logRowsWith escrowRowsWith
   refused m v = refl
 
   used-log : logOf (t .box) (t .logRows) (t .logValues) ≡ s .log
@@ -132,7 +134,7 @@ module _ (s : State) (k : Valid s) (o n used : ℕ) where
         sym (paired-logged i v (s .log) tags)
 
     attests : not (paired i v (s .log)) && full (s .log) n ≡ false → laid (settle 0 s c used) ≡ leaves 0 v
-    unfolding laid settle accepted effect number shown withPair withLog attested settled
+    unfolding laid settle accepted effect number shown withPair withLog attested settled logRowsWith escrowRowsWith
     attests h =
         let size = own-size s o n k (busy s k runs) within in
         by-cases (paired i v (s .log))
@@ -177,6 +179,25 @@ pub check-step : (t : Tables) → Valid (stateOf t) → tables (stateOf t) ≡ t
 check-step t k e i g v used =
     check-laid (stateOf t) i g v used
     ∙ ap (λ x. record { tables = x; answer = answerOf (checkOn (x .box) (x .logRows) (x .logValues) i g v) used [] }) e
+
+-- ---- an attest adds a row only where one is not used
+
+attested-fits : (r : ℕ) (b : BoxRecord) (rows : List LogRow) (values : List ℕ) (i : ℕ) (g : Tag) (v : List ℕ)
+    → (r ≡ 0 → logged i g v (logOf b rows values) ≡ false → b .log .rows < 64) → AddedFits b (attested r b rows values i g v .added)
+unfolding attested settled moreLog AddedFits
+attested-fits zero b rows values i g v h =
+    by-cases (logged i g v (logOf b rows values)) (λ e. rw e tt) (λ e. rw e (h refl e))
+attested-fits (suc r) b rows values i g v h = tt
+
+pub attest-fits : (b : BoxRecord) (rows : List LogRow) (heaps values : List ℕ) (o n : ℕ) → b .log .rows ≤ 64
+    → AddedFits b (attestOn b rows heaps values o n .added)
+unfolding attestOn
+attest-fits b rows heaps values o n few =
+    attested-fits _ b rows values _ _ _ (λ e f.
+    let e₁ = passed 3 (eqb (b .running) 16) _ e in
+    let e₂ = passed 10 (beyond 256 o n) _ e₁ in
+    let other = failed 12 _ _ e₂ in
+    has-room (b .log) n few (and-other _ (fullBy (b .log) n) (not-is _ f) other) .row)
 
 -- ---- neither shows bytes
 

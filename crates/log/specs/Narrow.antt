@@ -3,7 +3,7 @@ use Prim.Native.Nat.{ℕ, _+_, _*_, _≤_}
 use mathlib.Core.Path.{_≡_}
 use mathlib.Core.Bool.{not, _&&_, cond}
 use mathlib.Core.List.{List}
-use lib.ListN.{length, getD, take, set}
+use lib.ListN.{length, getD, take}
 use lib.Seq.{sets}
 use lib.Dec.{eqb}
 use Rattle.fnv.specs.declared.Tag.{Tag}
@@ -16,7 +16,9 @@ use Rattle.ideal.specs.Step.{logged, accept, _then_, first, beyond}
 use Rattle.ideal.specs.Tables.{logTable, entriesOf}
 use Rattle.ideal.specs.Fit.{RowsFit}
 use Rattle.state.specs.declared.Answer.{Answer}
-use Rattle.state.specs.declared.LogAnswer.{LogAnswer}
+use Rattle.state.specs.declared.Added.{Added}
+use Rattle.state.specs.declared.Added.the-variants.{Nothing, Log}
+use Rattle.state.specs.declared.RowAnswer.{RowAnswer}
 use Rattle.state.specs.Counts.{fullBy}
 use Rattle.state.specs.Answers.{refusedWith, acceptedWith, settled, answered}
 
@@ -32,13 +34,13 @@ pub record LogFits (used : Used) (rows : List LogRow) (values : List ℕ) : Type
 
 pub record LogResult : Type 0 where
   pub held : BoxRecord
-  pub rows : List LogRow
+  pub added : Added
   pub values : List ℕ
   pub answer : Answer
 
 -- an answer with the value bytes at exit
-abbrev pub resultOf : LogAnswer → List ℕ → LogResult
-resultOf r values = record { held = r .held; rows = r .log .rows; values = values; answer = r .answer }
+abbrev pub resultOf : RowAnswer → List ℕ → LogResult
+resultOf r values = record { held = r .held; added = r .added; values = values; answer = r .answer }
 
 -- the log that the used rows stand for
 abbrev pub logOf : BoxRecord → List LogRow → List ℕ → List Logged
@@ -46,12 +48,12 @@ logOf b rows values = entriesOf logTable values (take (b .log .rows) rows)
 
 -- ---- attest
 
-abbrev pub keptLog : BoxRecord → List LogRow → List ℕ → Answer → LogResult
-keptLog b rows values answer = record { held = b; rows = rows; values = values; answer = answer }
+abbrev pub keptLog : BoxRecord → List ℕ → Answer → LogResult
+keptLog b values answer = record { held = b; added = Nothing; values = values; answer = answer }
 
 -- one row and its value more
-unfoldable pub moreLog : BoxRecord → List LogRow → List ℕ → ℕ → Tag → List ℕ → LogResult
-moreLog b rows values i g v =
+unfoldable pub moreLog : BoxRecord → List ℕ → ℕ → Tag → List ℕ → LogResult
+moreLog b values i g v =
     let used = b .log in
     record {
       held =
@@ -62,7 +64,7 @@ moreLog b rows values i g v =
             log = record { rows = used .rows + 1; bytes = used .bytes + length v };
             escrow = b .escrow;
           };
-      rows = set rows (used .rows) (logTable .row (record { identity = i; tag = g }) (used .bytes) (length v));
+      added = Log (logTable .row (record { identity = i; tag = g }) (used .bytes) (length v));
       values = sets values (used .bytes) v;
       answer = acceptedWith (g .0);
     }
@@ -70,8 +72,8 @@ moreLog b rows values i g v =
 -- a value attested with its tag, unless it is refused: a row more where there is none yet
 unfoldable pub attested : (refusal : ℕ) → BoxRecord → List LogRow → List ℕ → ℕ → Tag → List ℕ → LogResult
 attested refusal b rows values i g v =
-    settled refusal (keptLog b rows values (refusedWith refusal))
-    (cond (logged i g v (logOf b rows values)) (keptLog b rows values (acceptedWith (g .0))) (moreLog b rows values i g v))
+    settled refusal (keptLog b values (refusedWith refusal))
+    (cond (logged i g v (logOf b rows values)) (keptLog b values (acceptedWith (g .0))) (moreLog b values i g v))
 
 -- the last of attest's tests alone
 unfoldable pub attestValue : BoxRecord → List LogRow → List ℕ → ℕ → Tag → List ℕ → LogResult

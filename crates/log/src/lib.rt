@@ -14,24 +14,18 @@ use ideal::BoxRecord;
 use ideal::LogRow;
 use ideal::Used;
 use pairs::in_log;
+use state::Added;
 use state::Answer;
-use state::LogAnswer;
 use state::LogTable;
+use state::RowAnswer;
 use state::accepted;
 use state::is_full;
 use state::refused;
 
-// The log with one row and its value more.
-fn log_more(
-    b: BoxRecord,
-    log: LogTable,
-    values: &mut [u8],
-    identity: u64,
-    tag: Tag,
-    value: &[u8],
-) -> LogAnswer
+// One row and its value more.
+fn log_more(b: BoxRecord, values: &mut [u8], identity: u64, tag: Tag, value: &[u8]) -> RowAnswer
     requires { ⌜ (length (now values) ≡ 4096) × Room (b .log) (length (now value)) ⌝ }
-    ensures { λ r. ⌜ resultOf r (now (values .exit)) ≡ moreLog b (log .rows) (now (values .entry)) identity tag (now (value .entry)) ⌝ }
+    ensures { λ r. ⌜ resultOf r (now (values .exit)) ≡ moreLog b (now (values .entry)) identity tag (now (value .entry)) ⌝ }
 {
     let used = b.log;
     let size = value.len() as u16;
@@ -42,18 +36,15 @@ fn log_more(
         first: used.bytes,
         length: size,
     };
-    let i = used.rows as usize;
-    let mut more = log;
-    more.rows[i] = row;
     let raised = Used {
         rows: used.rows + 1,
         bytes: used.bytes + size,
     };
     let mut next = b;
     next.log = raised;
-    LogAnswer {
+    RowAnswer {
         held: next,
-        log: more,
+        added: Added::Log(row),
         answer: accepted(tag.0),
     }
 }
@@ -66,27 +57,27 @@ fn attest_value(
     identity: u64,
     tag: Tag,
     value: &[u8],
-) -> LogAnswer
+) -> RowAnswer
     requires { ⌜ LogFits (b .log) (log .rows) (now values) × (length (now value) ≤ 256) ⌝ }
     ensures { λ r. ⌜ resultOf r (now (values .exit)) ≡ attestValue b (log .rows) (now (values .entry)) identity tag (now (value .entry)) ⌝ }
 {
     let used = b.log;
     let rows = log.rows;
     if in_log(rows, used.rows as usize, values, identity, tag, value) {
-        return LogAnswer {
+        return RowAnswer {
             held: b,
-            log,
+            added: Added::Nothing,
             answer: accepted(tag.0),
         };
     }
     if is_full(used, value.len()) {
-        return LogAnswer {
+        return RowAnswer {
             held: b,
-            log,
+            added: Added::Nothing,
             answer: refused(13),
         };
     }
-    log_more(b, log, values, identity, tag, value)
+    log_more(b, values, identity, tag, value)
 }
 
 // Attests a part of the running heap: that middle part of the lent heaps goes to the tag and to the log.
@@ -97,21 +88,21 @@ pub fn attest(
     values: &mut [u8],
     offset: u16,
     size: u16,
-) -> LogAnswer
+) -> RowAnswer
     requires { ⌜ (b .running ≤ 16) × (length (now heaps) ≡ 4096) × LogFits (b .log) (log .rows) (now values) ⌝ }
     ensures { λ r. ⌜ resultOf r (now (values .exit)) ≡ attestOn b (log .rows) (now (heaps .entry)) (now (values .entry)) offset size ⌝ }
 {
     if b.running == 16 {
-        return LogAnswer {
+        return RowAnswer {
             held: b,
-            log,
+            added: Added::Nothing,
             answer: refused(4),
         };
     }
     if offset as usize + size as usize > 256 {
-        return LogAnswer {
+        return RowAnswer {
             held: b,
-            log,
+            added: Added::Nothing,
             answer: refused(11),
         };
     }

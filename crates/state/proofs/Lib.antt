@@ -1,2 +1,3 @@
+pub mod NoRow
 pub mod Rooms
 pub mod Settled

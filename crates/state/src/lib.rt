@@ -1,7 +1,10 @@
-// What goes in and comes back by value, a fresh box, and whether a table has room.
+// What goes in and comes back by value, a fresh box, whether a table has room, and a table with one row more.
+mod adding;
 mod fresh;
 mod full;
 
+pub use adding::escrow_with;
+pub use adding::log_with;
 pub use fresh::fresh_escrow;
 pub use fresh::fresh_log;
 pub use fresh::fresh_record;
@@ -32,15 +35,17 @@ pub struct BoxAnswer {
     pub answer: Answer,
 }
 
-pub struct LogAnswer {
-    pub held: BoxRecord,
-    pub log: LogTable,
-    pub answer: Answer,
+// The row that a call adds to a table, if it adds one. What comes back is this row, and not the table: a table by value is
+// moved whole.
+pub enum Added {
+    Nothing,
+    Log(LogRow),
+    Escrow(EscrowRow),
 }
 
-pub struct EscrowAnswer {
+pub struct RowAnswer {
     pub held: BoxRecord,
-    pub escrow: EscrowTable,
+    pub added: Added,
     pub answer: Answer,
 }
 

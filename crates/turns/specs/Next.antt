@@ -5,18 +5,24 @@ use mathlib.Core.Bool.{false, cond}
 use mathlib.Core.List.{List, [], _∷_, _++_}
 use lib.ListN.{length, take, drop}
 use lib.Dec.{ltb}
+use Rattle.ideal.specs.declared.BoxRecord.{BoxRecord}
 use Rattle.ideal.specs.Tables.{Tables}
 use Rattle.ideal.specs.Layouts.{Sound}
+use Rattle.state.specs.declared.LogTable.{LogTable}
+use Rattle.state.specs.declared.EscrowTable.{EscrowTable}
+use Rattle.state.specs.NewRow.{logWith, escrowWith}
 use Rattle.soundness.specs.Parts.{tablesOf}
+use Rattle.turns.specs.declared.NextLine.{NextLine}
 use Rattle.turns.specs.declared.Lines.{Lines}
 use Rattle.sheet.specs.Sheet.{linesFrom}
 use Rattle.sheet.specs.Stored.{AtFront}
 use Rattle.sheet.specs.Turns.{Turn, turn}
 
-abbrev pub turnOf : Lines → (heaps shared logValues escrowValues out : List ℕ) → Turn
-turnOf r heaps shared logValues escrowValues out =
+-- of the box record and the tables that came in: the row that the call adds goes into them
+abbrev pub turnOf : BoxRecord → LogTable → EscrowTable → NextLine → (heaps shared logValues escrowValues out : List ℕ) → Turn
+turnOf b log escrow r heaps shared logValues escrowValues out =
     record {
-      tables = tablesOf (r .held) (r .log) (r .escrow) heaps shared logValues escrowValues;
+      tables = tablesOf (r .held) (logWith b (r .added) log) (escrowWith b (r .added) escrow) heaps shared logValues escrowValues;
       text = take (r .size) out;
       used = r .used;
       last = r .last;
@@ -28,6 +34,15 @@ pub record TurnMade (made defined : Turn) (before after : List ℕ) (size : ℕ)
   pub front : AtFront (defined .text) before after size
 
 -- ---- one turn after another
+
+abbrev pub turnsOf : Lines → (heaps shared logValues escrowValues out : List ℕ) → Turn
+turnsOf r heaps shared logValues escrowValues out =
+    record {
+      tables = tablesOf (r .held) (r .log) (r .escrow) heaps shared logValues escrowValues;
+      text = take (r .size) out;
+      used = r .used;
+      last = r .last;
+    }
 
 abbrev pub noTurn : Tables → Turn
 noTurn t = record { tables = t; text = []; used = 0; last = false }

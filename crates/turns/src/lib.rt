@@ -2,19 +2,32 @@
 ghost use Prim.Native.Nat.{_+_, _*_, _≤_};
 ghost use lib.ListN.{length, take};
 ghost use Rattle.ideal.specs.Layouts.{Sound};
+ghost use Rattle.state.specs.NewRow.{AddedFits};
 ghost use Rattle.soundness.specs.Parts.{tablesOf};
 ghost use Rattle.sheet.specs.Sheet.{line};
 ghost use Rattle.sheet.specs.Stored.{AtFront};
 ghost use Rattle.sheet.specs.Turns.{turn};
-ghost use Rattle.turns.specs.Next.{turnOf, TurnMade, turns};
+ghost use Rattle.turns.specs.Next.{turnOf, turnsOf, TurnMade, turns};
 use ideal::BoxRecord;
 use sheet::is_last;
 use sheet::write_line;
+use state::Added;
 use state::EscrowTable;
 use state::LogTable;
+use state::escrow_with;
+use state::log_with;
 
-// What a turn gives, or turns one after another: the box, the bytes used, how many bytes the lines have, and whether the
-// last of them has code 1, 2 or 3, after which no other comes.
+// What a turn gives: the box record, the row that the call adds, the bytes used, how many bytes the line has, and whether
+// its code is 1, 2 or 3, after which no other line comes.
+pub struct NextLine {
+    pub held: BoxRecord,
+    pub added: Added,
+    pub used: usize,
+    pub size: usize,
+    pub last: bool,
+}
+
+// What turns give, one after another: the same with whole tables.
 pub struct Lines {
     pub held: BoxRecord,
     pub log: LogTable,
@@ -54,21 +67,22 @@ pub fn next_line(
     escrow_values: &mut [u8],
     rest: &[u8],
     out: &mut [u8],
-) -> Lines
+) -> NextLine
     requires { ⌜
         Sound (tablesOf b log escrow (now heaps) (now shared) (now «log_values») (now «escrow_values»)) 1024
         × (2113 ≤ length (now out))
         ⌝ }
     ensures { λ r. ⌜
         TurnMade
-        (turnOf r (now (heaps .exit)) (now (shared .exit)) (now («log_values» .exit)) (now («escrow_values» .exit)) (now (out .exit)))
+        (turnOf b log escrow r (now (heaps .exit)) (now (shared .exit)) (now («log_values» .exit)) (now («escrow_values» .exit)) (now (out .exit)))
         (turn (tablesOf b log escrow (now (heaps .entry)) (now (shared .entry)) (now («log_values» .entry)) (now («escrow_values» .entry)))
         (now (rest .entry)))
         (now (out .entry)) (now (out .exit)) (r .size)
         ⌝ }
+    ensures { λ r. ⌜ AddedFits b (r .added) ⌝ }
 {
     let mut output = [0u8; 1024];
-    let reply = calls::call_sound(
+    let change = calls::call_sound(
         b,
         log,
         escrow,
@@ -80,23 +94,21 @@ pub fn next_line(
         rest,
     );
     let size = write_answer(
-        reply.code,
-        reply.number,
-        reply.used,
-        reply.shown,
+        change.code,
+        change.number,
+        change.used,
+        change.shown,
         &output,
         out,
     );
-    let held = reply.held;
-    let log = reply.log;
-    let escrow = reply.escrow;
-    Lines {
+    let held = change.held;
+    let added = change.added;
+    NextLine {
         held,
-        log,
-        escrow,
-        used: reply.used,
+        added,
+        used: change.used,
         size,
-        last: is_last(reply.code),
+        last: is_last(change.code),
     }
 }
 
@@ -119,7 +131,7 @@ pub fn next_lines(
         ⌝ }
     ensures { λ r. ⌜
         TurnMade
-        (turnOf r (now (heaps .exit)) (now (shared .exit)) (now («log_values» .exit)) (now («escrow_values» .exit)) (now (out .exit)))
+        (turnsOf r (now (heaps .exit)) (now (shared .exit)) (now («log_values» .exit)) (now («escrow_values» .exit)) (now (out .exit)))
         (turns (length (now (out .entry)))
         (tablesOf b log escrow (now (heaps .entry)) (now (shared .entry)) (now («log_values» .entry)) (now («escrow_values» .entry)))
         (now (rest .entry)))
@@ -144,9 +156,10 @@ pub fn next_lines(
             &rest[used..],
             &mut out[size..],
         );
+        let added = next.added;
+        log = log_with(b, log, added);
+        escrow = escrow_with(b, escrow, added);
         b = next.held;
-        log = next.log;
-        escrow = next.escrow;
         used += next.used;
         size += next.size;
         last = next.last;

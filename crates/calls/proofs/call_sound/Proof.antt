@@ -1,4 +1,4 @@
-use Rattle.calls.proofs.Whole.{whole-read, refused-read}
+use Rattle.calls.proofs.Whole.{nothing-changed, whole-read, refused-read}
 use Rattle.ideal.specs.Step.{onReading}
 use Rattle.record.specs.Meaning.{Within, readingIn}
 use Rattle.record.specs.Read.{cut, unknown, wrongMap}
@@ -23,20 +23,20 @@ carry-out-requires c κs = (
 enum-told : tie.Need-enum-told
 enum-told c = search needs
 
-reply-refusal-requires : tie.Need-reply-refusal-requires
-reply-refusal-requires c κs = search needs
+change-refusal-requires : tie.Need-change-refusal-requires
+change-refusal-requires c κs = search needs
 
 enum-told-2 : tie.Need-enum-told-2
 enum-told-2 c = search needs
 
-reply-refusal-requires-2 : tie.Need-reply-refusal-requires-2
-reply-refusal-requires-2 c κs = search needs
+change-refusal-requires-2 : tie.Need-change-refusal-requires-2
+change-refusal-requires-2 c κs = search needs
 
 enum-told-3 : tie.Need-enum-told-3
 enum-told-3 c = search needs
 
-reply-refusal-requires-3 : tie.Need-reply-refusal-requires-3
-reply-refusal-requires-3 c κs = search needs
+change-refusal-requires-3 : tie.Need-change-refusal-requires-3
+change-refusal-requires-3 c κs = search needs
 
 same-length : tie.Need-same-length
 same-length c = search needs
@@ -55,29 +55,32 @@ same-length-5 c = search needs
 
 returns : tie.Need-returns
 returns c =
-    c .before .before .before .before .before .before .before .before .before .before .carry-out .ensures
-    ∙ whole-read _ _ _ _
-    (c .before .before .before .before .before .before .before .before .before .before .before .before .before .before .before .before .before .before .before .read-call .ensures .0) _ _
-    (c .before .before .before .before .before .before .before .before .before .before .before .before .before .before .before .before .before .call .given .1)
+    let carried = c .before .before .before .before .before .before .before .before .before .before .carry-out .ensures in
+    let found = c .before .before .before .before .before .before .before .before .before .before .before .before .before .before .before .before .before .before .before .read-call .ensures .0 in (
+      carried .0
+          ∙ whole-read _ _ _ _ found _ _
+          (c .before .before .before .before .before .before .before .before .before .before .before .before .before .before .before .before .before .call .given .1),
+      carried .1,
+    )
 
 returns-2 : tie.Need-returns-2
 unfolding readingIn cut
 returns-2 c =
-    rw (c .reply-refusal .ensures)
+    nothing-changed (c .change-refusal .ensures)
     (refused-read (c .before .before .before .before .before .before .before .before .before .before .pre) _ _ 1 0
     (rw (c .before .enum-told .given .1) at (sym (c .before .before .before .read-call .ensures .0))))
 
 returns-3 : tie.Need-returns-3
 unfolding readingIn unknown
 returns-3 c =
-    rw (c .reply-refusal2 .ensures)
+    nothing-changed (c .change-refusal2 .ensures)
     (refused-read (c .before .before .before .before .before .before .before .before .before .before .pre) _ _ 2 0
     (rw (c .before .enum-told2 .given .1) at (sym (c .before .before .before .read-call .ensures .0))))
 
 returns-4 : tie.Need-returns-4
 unfolding readingIn wrongMap
 returns-4 c =
-    rw (c .reply-refusal3 .ensures)
+    nothing-changed (c .change-refusal3 .ensures)
     (refused-read (c .before .before .before .before .before .before .before .before .before .before .pre) _ _ 3 0
     (rw (c .before .enum-told3 .given .1) at (sym (c .before .before .before .read-call .ensures .0))))
 
@@ -89,11 +92,11 @@ call-sound-spec =
     enum-known-call
     carry-out-requires
     enum-told
-    reply-refusal-requires
+    change-refusal-requires
     enum-told-2
-    reply-refusal-requires-2
+    change-refusal-requires-2
     enum-told-3
-    reply-refusal-requires-3
+    change-refusal-requires-3
     same-length
     same-length-2
     same-length-3

@@ -12,20 +12,11 @@ cast-put c = search needs
 put-requires : tie.Need-put-requires
 put-requires c κs = search needs
 
-cast-i : tie.Need-cast-i
-cast-i c = search needs
+add-t16 : tie.Need-add-t16
+add-t16 c = search needs
 
-mul-row : tie.Need-mul-row
-mul-row c = search needs
-
-element-set-from-row : tie.Need-element-set-from-row
-element-set-from-row c = search needs
-
-add-t21 : tie.Need-add-t21
-add-t21 c = search needs
-
-add-t22 : tie.Need-add-t22
-add-t22 c = search needs
+add-t17 : tie.Need-add-t17
+add-t17 c = search needs
 
 accepted-requires : tie.Need-accepted-requires
 accepted-requires c κs = search needs
@@ -36,7 +27,7 @@ same-length c = search needs
 returns : tie.Need-returns
 unfolding moreEscrow
 returns c =
-    rw (c .before .before .before .before .before .before .put .ensures, c .accepted .ensures)
+    rw (c .before .before .before .before .before .put .ensures, c .accepted .ensures)
 
 pub escrow-more-spec : {M : Type 1} → statement M
 escrow-more-spec =
@@ -45,11 +36,8 @@ escrow-more-spec =
     cast-size
     cast-put
     put-requires
-    cast-i
-    mul-row
-    element-set-from-row
-    add-t21
-    add-t22
+    add-t16
+    add-t17
     accepted-requires
     same-length
     returns)

@@ -2,7 +2,7 @@
 use mathlib.Core.Logic.{inl, inr}
 use borrow.Author.Needs.{needs}
 use borrow.Author.Tests.{not-true, not-false}
-use Rattle.caif.proofs.Calling.{called-off, called-on, both-grown}
+use Rattle.caif.proofs.Calling.{called-off, called-on}
 use Rattle.caif.proofs.copied.call_copied.Statement.{statement}
 use Rattle.caif.proofs.copied.call_copied.Tie as tie
 
@@ -18,13 +18,11 @@ called-off-requires-2 c κs = search needs
 returns-2 : tie.Need-returns-2
 returns-2 c = called-off _ _ _ _ _ _ _ _ _ (c .called-off2 .ensures) (inr (not-true _ (c .before .if2 .taken)))
 
-call-requires : tie.Need-call-requires
-call-requires c κs = search needs
+call-change-requires : tie.Need-call-change-requires
+call-change-requires c κs = search needs
 
 called-of-requires : tie.Need-called-of-requires
-called-of-requires c κs =
-    let g = both-grown _ (c .before .before .before .before .before .before .before .before .before .before .before .before .before .before .before .before .before .before .before .before .before .before .before .before .before .before .before .before .args .log) (c .before .before .before .before .before .before .before .before .before .before .before .before .before .before .before .before .before .before .before .before .before .before .before .before .before .before .before .before .args .escrow) _ _ _ _ _ _ (c .before .before .before .before .before .before .before .before .before .before .call .ensures) in
-    (g .log .room, g .escrow .room)
+called-of-requires c κs = search needs
 
 same-length : tie.Need-same-length
 same-length c = search needs
@@ -43,7 +41,8 @@ same-length-5 c = search needs
 
 returns-3 : tie.Need-returns-3
 returns-3 c =
-    called-on _ _ _ _ _ _ _ _ _ (c .before .before .before .before .before .before .before .before .before .before .before .call .ensures) (c .called-of .ensures)
+    let called = c .before .before .before .before .before .before .before .before .before .before .before .call-change .ensures in
+    called-on _ _ _ _ _ _ _ _ _ _ (called .0) (called .1) (c .called-of .ensures)
     (not-false _ (c .before .before .before .before .before .before .before .before .before .before .before .before .before .before .before .before .before .before .before .if1 .left))
     (not-false _ (c .before .before .before .before .before .before .before .before .before .before .before .before .before .before .before .before .before .if2 .left))
 
@@ -55,7 +54,7 @@ call-copied-spec =
     returns
     called-off-requires-2
     returns-2
-    call-requires
+    call-change-requires
     called-of-requires
     same-length
     same-length-2

@@ -1,4 +1,5 @@
 use Rattle.calls.proofs.Carried.{created, started, yielded, exited, attested, protected}
+use Rattle.calls.proofs.Whole.{no-row-added}
 use Rattle.calls.proofs.Ready.{ready}
 use Rattle.calls.proofs.Rest.{rest-alone}
 use borrow.Author.Needs.{needs}
@@ -11,8 +12,8 @@ enum-known-called c = search needs
 create-requires : tie.Need-create-requires
 create-requires c κs = ready (c .before .before .before .before .before .before .before .before .before .pre .0) .map
 
-reply-box-requires : tie.Need-reply-box-requires
-reply-box-requires c κs = search needs
+change-box-requires : tie.Need-change-box-requires
+change-box-requires c κs = search needs
 
 enum-known-called-2 : tie.Need-enum-known-called-2
 enum-known-called-2 c = search needs
@@ -20,8 +21,8 @@ enum-known-called-2 c = search needs
 start-requires : tie.Need-start-requires
 start-requires c κs = search needs
 
-reply-box-requires-2 : tie.Need-reply-box-requires-2
-reply-box-requires-2 c κs = search needs
+change-box-requires-2 : tie.Need-change-box-requires-2
+change-box-requires-2 c κs = search needs
 
 enum-told : tie.Need-enum-told
 enum-told c = search needs
@@ -29,8 +30,8 @@ enum-told c = search needs
 yield-running-requires : tie.Need-yield-running-requires
 yield-running-requires c κs = search needs
 
-reply-box-requires-3 : tie.Need-reply-box-requires-3
-reply-box-requires-3 c κs = search needs
+change-box-requires-3 : tie.Need-change-box-requires-3
+change-box-requires-3 c κs = search needs
 
 enum-told-2 : tie.Need-enum-told-2
 enum-told-2 c = search needs
@@ -38,8 +39,8 @@ enum-told-2 c = search needs
 exit-running-requires : tie.Need-exit-running-requires
 exit-running-requires c κs = ready (c .before .before .before .before .before .before .before .before .before .pre .0) .leaving
 
-reply-box-requires-4 : tie.Need-reply-box-requires-4
-reply-box-requires-4 c κs = search needs
+change-box-requires-4 : tie.Need-change-box-requires-4
+change-box-requires-4 c κs = search needs
 
 enum-known-called-3 : tie.Need-enum-known-called-3
 enum-known-called-3 c = search needs
@@ -47,8 +48,8 @@ enum-known-called-3 c = search needs
 attest-requires : tie.Need-attest-requires
 attest-requires c κs = let s = ready (c .before .before .before .before .before .before .before .before .before .before .before .pre .0) in (s .runs, s .heaps, s .log)
 
-reply-log-requires : tie.Need-reply-log-requires
-reply-log-requires c κs = search needs
+change-row-requires : tie.Need-change-row-requires
+change-row-requires c κs = search needs
 
 enum-known-called-4 : tie.Need-enum-known-called-4
 enum-known-called-4 c = search needs
@@ -56,29 +57,29 @@ enum-known-called-4 c = search needs
 protect-requires : tie.Need-protect-requires
 protect-requires c κs = let s = ready (c .before .before .before .before .before .before .before .before .before .before .before .pre .0) in (s .runs, s .heaps, s .escrow)
 
-reply-escrow-requires : tie.Need-reply-escrow-requires
-reply-escrow-requires c κs = search needs
+change-row-requires-2 : tie.Need-change-row-requires-2
+change-row-requires-2 c κs = search needs
 
 answer-alone-requires : tie.Need-answer-alone-requires
 answer-alone-requires c κs = (c .before .before .before .before .before .before .before .before .before .before .before .before .pre .0, (c .before .before .before .before .before .before .before .before .before .before .before .before .pre .1, rest-alone _ (c .before .before .before .before .before .match .keys7)))
 
-reply-answer-requires : tie.Need-reply-answer-requires
-reply-answer-requires c κs = search needs
+change-answer-requires : tie.Need-change-answer-requires
+change-answer-requires c κs = search needs
 
 returns : tie.Need-returns
-returns c = created (c .before .before .before .before .before .before .before .before .before .before .before .pre .0) _ _ _ _ (c .before .before .before .called .given .1) (c .reply-box .ensures) (c .before .create .ensures)
+returns c = created (c .before .before .before .before .before .before .before .before .before .before .before .pre .0) _ _ _ _ (c .before .before .before .called .given .1) (c .change-box .ensures) (c .before .create .ensures)
 
 returns-2 : tie.Need-returns-2
-returns-2 c = started (c .before .before .before .before .before .before .before .before .before .before .before .pre .0) _ _ _ _ (c .before .before .before .called2 .given .1) (c .reply-box2 .ensures) (c .before .start .ensures)
+returns-2 c = started (c .before .before .before .before .before .before .before .before .before .before .before .pre .0) _ _ _ _ (c .before .before .before .called2 .given .1) (c .change-box2 .ensures) (c .before .start .ensures)
 
 returns-3 : tie.Need-returns-3
-returns-3 c = yielded (c .before .before .before .before .before .before .before .before .before .before .pre .0) _ _ _ _ (c .before .before .enum-told .given .1) (c .reply-box3 .ensures) (c .before .yield-running .ensures)
+returns-3 c = yielded (c .before .before .before .before .before .before .before .before .before .before .pre .0) _ _ _ _ (c .before .before .enum-told .given .1) (c .change-box3 .ensures) (c .before .yield-running .ensures)
 
 same-length : tie.Need-same-length
 same-length c = search needs
 
 returns-4 : tie.Need-returns-4
-returns-4 c = exited (c .before .before .before .before .before .before .before .before .before .before .before .before .before .pre .0) _ _ _ _ (c .before .before .before .before .before .enum-told2 .given .1) (c .reply-box4 .ensures) (c .before .before .before .exit-running .ensures .0) (c .before .before .before .exit-running .ensures .1)
+returns-4 c = exited (c .before .before .before .before .before .before .before .before .before .before .before .before .before .pre .0) _ _ _ _ (c .before .before .before .before .before .enum-told2 .given .1) (c .change-box4 .ensures) (c .before .before .before .exit-running .ensures .0) (c .before .before .before .exit-running .ensures .1)
 
 same-length-2 : tie.Need-same-length-2
 same-length-2 c = search needs
@@ -87,7 +88,7 @@ same-length-3 : tie.Need-same-length-3
 same-length-3 c = search needs
 
 returns-5 : tie.Need-returns-5
-returns-5 c = attested (c .before .before .before .before .before .before .before .before .before .before .before .before .before .before .before .pre .0) _ _ _ _ (c .before .before .before .before .before .before .before .called3 .given .1) (c .reply-log .ensures) (c .before .before .before .attest .ensures)
+returns-5 c = attested (c .before .before .before .before .before .before .before .before .before .before .before .before .before .before .before .pre .0) _ _ _ _ (c .before .before .before .before .before .before .before .called3 .given .1) (c .change-row .ensures) (c .before .before .before .attest .ensures)
 
 same-length-4 : tie.Need-same-length-4
 same-length-4 c = search needs
@@ -96,7 +97,7 @@ same-length-5 : tie.Need-same-length-5
 same-length-5 c = search needs
 
 returns-6 : tie.Need-returns-6
-returns-6 c = protected (c .before .before .before .before .before .before .before .before .before .before .before .before .before .before .before .pre .0) _ _ _ _ (c .before .before .before .before .before .before .before .called4 .given .1) (c .reply-escrow .ensures) (c .before .before .before .protect .ensures)
+returns-6 c = protected (c .before .before .before .before .before .before .before .before .before .before .before .before .before .before .before .pre .0) _ _ _ _ (c .before .before .before .before .before .before .before .called4 .given .1) (c .change-row2 .ensures) (c .before .before .before .protect .ensures)
 
 same-length-6 : tie.Need-same-length-6
 same-length-6 c = search needs
@@ -114,7 +115,7 @@ same-length-10 : tie.Need-same-length-10
 same-length-10 c = search needs
 
 returns-7 : tie.Need-returns-7
-returns-7 c = rw (c .reply-answer .ensures) (c .before .before .before .before .before .before .before .answer-alone .ensures _)
+returns-7 c = no-row-added (c .change-answer .ensures) (c .before .before .before .before .before .before .before .answer-alone .ensures _)
 
 pub carry-out-spec : {M : Type 1} → statement M
 carry-out-spec =
@@ -122,24 +123,24 @@ carry-out-spec =
     (tie.spec
     enum-known-called
     create-requires
-    reply-box-requires
+    change-box-requires
     enum-known-called-2
     start-requires
-    reply-box-requires-2
+    change-box-requires-2
     enum-told
     yield-running-requires
-    reply-box-requires-3
+    change-box-requires-3
     enum-told-2
     exit-running-requires
-    reply-box-requires-4
+    change-box-requires-4
     enum-known-called-3
     attest-requires
-    reply-log-requires
+    change-row-requires
     enum-known-called-4
     protect-requires
-    reply-escrow-requires
+    change-row-requires-2
     answer-alone-requires
-    reply-answer-requires
+    change-answer-requires
     returns
     returns-2
     returns-3
