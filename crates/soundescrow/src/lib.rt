@@ -6,7 +6,7 @@ ghost use lib.ListN.{length, take, drop};
 ghost use Rattle.ideal.specs.State.{every};
 ghost use Rattle.ideal.specs.Tables.{escrowTable, entriesOf};
 ghost use Rattle.ideal.specs.Soundness.{sameHandle};
-ghost use Rattle.soundness.specs.Tests.{rowSound, rowsSound, differBefore, escrowRowRight, escrowSound, escrowBits};
+ghost use Rattle.soundness.specs.Tests.{rowSound, rowsSound, differBefore, escrowRowRight, escrowSound};
 use buffers::all_zero;
 use handles::handle_in;
 use ideal::EscrowRow;
@@ -73,25 +73,25 @@ fn handles_differ(rows: [EscrowRow; 64], n: usize) -> bool
     true
 }
 
-// All bits of a row, joined.
-fn row_bits(row: EscrowRow) -> u64
-    ensures { λ r. ⌜ r ≡ escrowBits row ⌝ }
-{
-    (row.source | row.recipient | row.handle.0) | (row.first as u64 | row.length as u64)
-}
-
-// Whether the rows from n on are blank: their bits are joined, with no way out of the loop.
+// Whether the rows from n on are blank: the bits of each field are joined by themselves, with no way out of the loop.
 fn rows_blank(rows: [EscrowRow; 64], n: usize) -> bool
     requires { ⌜ n ≤ 64 ⌝ }
     ensures { λ r. ⌜ r ≡ every (escrowTable .isBlank) (drop n rows) ⌝ }
 {
-    let mut all: u64 = 0;
+    let mut sources: u64 = 0;
+    let mut recipients: u64 = 0;
+    let mut handles: u64 = 0;
+    let mut parts: u64 = 0;
     let mut i = n;
     while i < 64 {
         let row = rows[i];
-        all = all | row_bits(row);
+        sources = sources | row.source;
+        recipients = recipients | row.recipient;
+        handles = handles | row.handle.0;
+        parts = parts | (row.first as u64 | row.length as u64);
         i += 1;
     }
+    let all = ((sources | recipients) | handles) | parts;
     all == 0
 }
 

@@ -38,6 +38,13 @@ pub join-step : {A : Type 0} (p : A → Bool) (bits : A → ℕ) → ((a : A) �
 join-step p bits f l d all i h =
     rw (every-step p l d i h, joined all (bits (getD l i d)), f (getD l i d)) (sym (and-assoc (eqb all 0) _ _))
 
+-- bits joined field by field are those of the whole rows
+pub join-more : (s a x d z : ℕ) → eqb s 0 ≡ eqb (bitOr a x) 0
+    → eqb (bitOr s (bitOr d z)) 0 ≡ eqb (bitOr (bitOr a d) (bitOr x z)) 0
+join-more s a x d z e =
+    rw (joined s (bitOr d z), e, joined a x, joined d z, joined (bitOr a d) (bitOr x z), joined a d, joined x z)
+    (and-swap (eqb a 0) (eqb x 0) (eqb d 0) (eqb z 0))
+
 pub log-bits : (r : LogRow) → eqb (logBits r) 0 ≡ logTable .isBlank r
 unfolding logBits
 log-bits r = simp (joined, and-assoc)
