@@ -14,7 +14,9 @@ use Rattle.ideal.specs.Tables.{Tables}
 use Rattle.ideal.proofs.Bools.{by-cases}
 use Rattle.ideal.proofs.Facts.{facts}
 use Rattle.soundness.specs.Parts.{tablesOf}
-use Rattle.state.specs.NewRow.{AddedFits}
+use Rattle.state.specs.declared.Added.the-variants.{Nothing}
+use Rattle.state.specs.NewRow.{RowAdded}
+use Rattle.state.proofs.NoRow.{added-fits}
 use Rattle.calls.specs.declared.Change.{Change}
 use Rattle.calls.specs.Entry.{resultOf, readyOn, entryOn}
 use Rattle.calls.specs.Replies.{changeRefusal, replyOf}
@@ -25,7 +27,7 @@ use Rattle.caif.specs.declared.Called.{Called}
 use Rattle.caif.specs.Lent.{lentTables}
 use Rattle.caif.specs.Copied.{newLogRow, newEscrowRow, calledOf, CalledOn}
 use Rattle.caif.proofs.Names.{LogRowFits, EscrowRowFits}
-use Rattle.caif.proofs.NewRows.{with-new-log, with-new-escrow, new-log-fits, new-escrow-fits}
+use Rattle.caif.proofs.NewRows.{with-new-log, with-new-escrow, new-log-fits, new-escrow-fits, log-added, escrow-added, nothing-added}
 
 -- ---- rows that are not 64
 
@@ -57,12 +59,14 @@ module _ (b : BoxRecord) (log : LentLog) (escrow : LentEscrow) (heaps shared log
             (not-ready t (length output) (⊎-elim (λ w. inl (sym (lr .counted) ∙ w)) (λ w. inr (sym (er .counted) ∙ w)) wrong)));
         logFits = λ logRows lr. rw off (λ h. absurd (false≢true h));
         escrowFits = λ escrowRows er. rw off (λ h. absurd (false≢true h));
+        logRow = rw off (log-added b b Nothing (nothing-added b));
+        escrowRow = rw off (escrow-added b b Nothing (nothing-added b));
       }
 
   module _ (c : Change) {heaps′ shared′ logValues′ escrowValues′ output′ : List ℕ}
       (answers : resultOf (replyOf b (log .table) (escrow .table) c) heaps′ shared′ logValues′ escrowValues′ output′
       ≡ entryOn (tablesOf b (log .table) (escrow .table) heaps shared logValues escrowValues) bytes output)
-      (fits : AddedFits b (c .added)) where
+      (adds : RowAdded b (c .held) (c .added)) where
     pub called-on : {q : Called} → q ≡ calledOf b c → log .whole ≡ true → escrow .whole ≡ true
         → CalledOn b log escrow heaps shared logValues escrowValues output bytes q heaps′ shared′ logValues′ escrowValues′ output′
     unfolding calledOf
@@ -74,10 +78,12 @@ module _ (b : BoxRecord) (log : LentLog) (escrow : LentEscrow) (heaps shared log
               rw (e, with-new-log b (c .added) logRows, with-new-escrow b (c .added) escrowRows, ← el, ← ee) answers;
           logFits = λ logRows lr.
               let n = rows-whole (length logRows) wl (lr .counted) in
-              rw (e, n) (new-log-fits b (c .added) fits);
+              rw (e, n) (new-log-fits b (c .added) (added-fits b (c .held) (c .added) adds));
           escrowFits = λ escrowRows er.
               let n = rows-whole (length escrowRows) we (er .counted) in
-              rw (e, n) (new-escrow-fits b (c .added) fits);
+              rw (e, n) (new-escrow-fits b (c .added) (added-fits b (c .held) (c .added) adds));
+          logRow = rw e (log-added b (c .held) (c .added) adds);
+          escrowRow = rw e (escrow-added b (c .held) (c .added) adds);
         }
 
 -- what is left to show once the call has returned r: its rows fit, and `answers` holds of them

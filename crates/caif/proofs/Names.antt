@@ -2,17 +2,9 @@
 use mathlib.Core.List.{List}
 use Rattle.ideal.specs.declared.LogRow.{LogRow}
 use Rattle.ideal.specs.declared.EscrowRow.{EscrowRow}
-use Rattle.caif.specs.declared.LentLog.{LentLog}
-use Rattle.caif.specs.declared.LentEscrow.{LentEscrow}
 use Rattle.caif.specs.declared.NewLogRow.{NewLogRow}
 use Rattle.caif.specs.declared.NewEscrowRow.{NewEscrowRow}
-use Rattle.caif.specs.Copied.{RowsRead, withRow, RowFits}
-
-abbrev pub LogRead : LentLog → List LogRow → Type 0
-LogRead r rows = RowsRead (r .whole) (r .table .rows) rows
-
-abbrev pub EscrowRead : LentEscrow → List EscrowRow → Type 0
-EscrowRead r rows = RowsRead (r .whole) (r .table .rows) rows
+use Rattle.caif.specs.Copied.{withRow, RowFits}
 
 abbrev pub withLogRow : NewLogRow → List LogRow → List LogRow
 withLogRow new rows = withRow (new .added) (new .at) (new .row) rows

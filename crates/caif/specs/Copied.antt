@@ -4,11 +4,11 @@ use mathlib.Core.Path.{_≡_}
 use mathlib.Core.Bool.{Bool, true, false, cond}
 use mathlib.Core.List.{List}
 use lib.ListN.{length, set}
-use lib.Dec.{eqb}
+use lib.Dec.{eqb, ltb}
 use Rattle.ideal.specs.declared.BoxRecord.{BoxRecord}
 use Rattle.ideal.specs.declared.LogRow.{LogRow}
 use Rattle.ideal.specs.declared.EscrowRow.{EscrowRow}
-use Rattle.ideal.specs.Tables.{logTable, escrowTable}
+use Rattle.ideal.specs.Tables.{logTable, escrowTable, freshTables}
 use Rattle.state.specs.declared.Added.{Added}
 use Rattle.state.specs.declared.Added.the-variants.{Nothing, Log, Escrow}
 use Rattle.calls.specs.declared.Change.{Change}
@@ -22,10 +22,17 @@ use Rattle.caif.specs.Lent.{lentTables, lentResult}
 
 -- ---- lent rows, read
 
--- whether they are 64, and then a copy of them
-pub record RowsRead {Row : Type 0} (whole : Bool) (copy rows : List Row) : Type 0 where
+-- whether they are 64, and a copy of them, or else fresh rows
+pub record RowsRead {Row : Type 0} (fresh : List Row) (whole : Bool) (copy rows : List Row) : Type 0 where
   pub counted : whole ≡ eqb (length rows) 64
   pub same : length rows ≡ 64 → copy ≡ rows
+  pub other : (length rows ≡ 64 → ⊥) → copy ≡ fresh
+
+abbrev pub LogRead : LentLog → List LogRow → Type 0
+LogRead r rows = RowsRead (freshTables .logRows) (r .whole) (r .table .rows) rows
+
+abbrev pub EscrowRead : LentEscrow → List EscrowRow → Type 0
+EscrowRead r rows = RowsRead (freshTables .escrowRows) (r .whole) (r .table .rows) rows
 
 -- ---- the row that a call adds
 
@@ -43,6 +50,13 @@ newEscrowRow b (Escrow row) = record { added = true; at = b .escrow .rows; row =
 -- the rows with the new one, if there is one
 abbrev pub withRow : {Row : Type 0} → (added : Bool) → (at : ℕ) → Row → List Row → List Row
 withRow added at row rows = cond added (set rows at row) rows
+
+-- whether there is one, by the used rows before and after; it goes to the first row that was not used, and where there is
+-- none a blank row stands for it
+pub record AddedBy {Row : Type 0} (blank : Row) (before after : ℕ) (added : Bool) (at : ℕ) (row : Row) : Type 0 where
+  pub rises : added ≡ ltb before after
+  pub place : at ≡ cond added before 0
+  pub none : added ≡ false → row ≡ blank
 
 -- it is put at a row that there is
 abbrev pub RowFits : {Row : Type 0} → (added : Bool) → (at : ℕ) → List Row → Type 0
@@ -62,11 +76,11 @@ calledOf b c =
 -- Whatever rows were read: with the rows added to them, the reply is the entry's result.
 pub record CalledOn (b : BoxRecord) (log : LentLog) (escrow : LentEscrow) (heaps shared logValues escrowValues output bytes : List ℕ)
     (r : Called) (heaps′ shared′ logValues′ escrowValues′ output′ : List ℕ) : Type 0 where
-  pub result : (logRows : List LogRow) (escrowRows : List EscrowRow) → RowsRead (log .whole) (log .table .rows) logRows
-      → RowsRead (escrow .whole) (escrow .table .rows) escrowRows
+  pub result : (logRows : List LogRow) (escrowRows : List EscrowRow) → LogRead log logRows → EscrowRead escrow escrowRows
       → lentResult (r .reply) (withRow (r .log .added) (r .log .at) (r .log .row) logRows)
       (withRow (r .escrow .added) (r .escrow .at) (r .escrow .row) escrowRows) heaps′ shared′ logValues′ escrowValues′ output′
       ≡ entryOn (lentTables b logRows escrowRows heaps shared logValues escrowValues) bytes output
-  pub logFits : (rows : List LogRow) → RowsRead (log .whole) (log .table .rows) rows → RowFits (r .log .added) (r .log .at) rows
-  pub escrowFits : (rows : List EscrowRow) → RowsRead (escrow .whole) (escrow .table .rows) rows
-      → RowFits (r .escrow .added) (r .escrow .at) rows
+  pub logFits : (rows : List LogRow) → LogRead log rows → RowFits (r .log .added) (r .log .at) rows
+  pub escrowFits : (rows : List EscrowRow) → EscrowRead escrow rows → RowFits (r .escrow .added) (r .escrow .at) rows
+  pub logRow : AddedBy (logTable .blank) (b .log .rows) (r .reply .held .log .rows) (r .log .added) (r .log .at) (r .log .row)
+  pub escrowRow : AddedBy (escrowTable .blank) (b .escrow .rows) (r .reply .held .escrow .rows) (r .escrow .added) (r .escrow .at) (r .escrow .row)

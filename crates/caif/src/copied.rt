@@ -1,7 +1,7 @@
 // A call on copied rows, and the row that it adds to each table.
 ghost use mathlib.Core.Path.{_≡_};
 ghost use mathlib.Core.Bool.{true, false};
-ghost use Rattle.ideal.specs.Tables.{logTable, escrowTable};
+ghost use Rattle.ideal.specs.Tables.{logTable, escrowTable, freshTables};
 ghost use Rattle.calls.specs.Replies.{changeRefusal};
 ghost use Rattle.caif.specs.Copied.{newLogRow, newEscrowRow, calledOf, CalledOn};
 use crate::Called;
@@ -36,7 +36,7 @@ pub fn whole_escrow(table: EscrowTable) -> LentEscrow
 }
 
 pub fn no_log() -> LentLog
-    ensures { λ r. ⌜ r .whole ≡ false ⌝ }
+    ensures { λ r. ⌜ (r .whole ≡ false) × (r .table .rows ≡ freshTables .logRows) ⌝ }
 {
     let table = fresh_log();
     LentLog {
@@ -46,7 +46,7 @@ pub fn no_log() -> LentLog
 }
 
 pub fn no_escrow() -> LentEscrow
-    ensures { λ r. ⌜ r .whole ≡ false ⌝ }
+    ensures { λ r. ⌜ (r .whole ≡ false) × (r .table .rows ≡ freshTables .escrowRows) ⌝ }
 {
     let table = fresh_escrow();
     LentEscrow {

@@ -1,5 +1,5 @@
 // Lent rows: read whole where they are 64, and the one row that a call adds put back.
-ghost use Rattle.caif.specs.Copied.{RowsRead, withRow, RowFits};
+ghost use Rattle.caif.specs.Copied.{LogRead, EscrowRead, withRow, RowFits};
 ghost use mathlib.Core.Path.{_≡_};
 use crate::LentEscrow;
 use crate::LentLog;
@@ -15,7 +15,7 @@ use rows::put_escrow_row;
 use rows::put_log_row;
 
 pub fn read_log(rows: &[LogRow]) -> LentLog
-    ensures { λ r. ⌜ RowsRead (r .whole) (r .table .rows) (now (rows .entry)) ⌝ }
+    ensures { λ r. ⌜ LogRead r (now (rows .entry)) ⌝ }
 {
     if rows.len() == 64 {
         whole_log(copy_log(rows))
@@ -25,7 +25,7 @@ pub fn read_log(rows: &[LogRow]) -> LentLog
 }
 
 pub fn read_escrow(rows: &[EscrowRow]) -> LentEscrow
-    ensures { λ r. ⌜ RowsRead (r .whole) (r .table .rows) (now (rows .entry)) ⌝ }
+    ensures { λ r. ⌜ EscrowRead r (now (rows .entry)) ⌝ }
 {
     if rows.len() == 64 {
         whole_escrow(copy_escrow(rows))

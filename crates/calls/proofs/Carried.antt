@@ -1,6 +1,6 @@
 -- Each kind of call, from what its function leaves and answers: the laid-out step of the box's state. Assumes nothing.
 use Prim.Native.Nat.{ℕ}
-use mathlib.Core.Path.{_≡_, ap}
+use mathlib.Core.Path.{_≡_, refl, ap}
 use mathlib.Core.List.{List}
 use Rattle.fnv.specs.declared.Tag.{Tag}
 use Rattle.record.specs.declared.Draw.{Draw}
@@ -16,7 +16,7 @@ use Rattle.state.specs.declared.EscrowTable.{EscrowTable}
 use Rattle.state.specs.declared.Answer.{Answer}
 use Rattle.state.specs.declared.BoxAnswer.{BoxAnswer}
 use Rattle.state.specs.declared.RowAnswer.{RowAnswer}
-use Rattle.state.specs.NewRow.{logRowsWith, escrowRowsWith, AddedFits}
+use Rattle.state.specs.NewRow.{logRowsWith, escrowRowsWith, RowAdded}
 use Rattle.running.specs.Narrow.{startOn, yieldOn, reportOn}
 use Rattle.services.specs.Narrow.{createOn, exitOn, exitHeaps}
 use Rattle.shared.specs.Narrow.{sharedWriteAnswer, sharedWriteShared, sharedReadAnswer, sharedReadOutput}
@@ -27,8 +27,9 @@ use Rattle.escrow.specs.Narrow as escrow-part
 use Rattle.escrow.specs.Narrow.{protectOn}
 use Rattle.retrieval.specs.Narrow.{retrieveAnswer, retrieveHeaps}
 use Rattle.soundness.specs.Parts.{tablesOf}
-use Rattle.log.proofs.Bridge.{attest-fits}
-use Rattle.escrow.proofs.Bridge.{protect-fits}
+use Rattle.state.proofs.NoRow.{counts-kept}
+use Rattle.log.proofs.Bridge.{attest-adds}
+use Rattle.escrow.proofs.Bridge.{protect-adds}
 use Rattle.calls.specs.declared.Change.{Change}
 use Rattle.calls.specs.Entry.{resultOf, carriedOn}
 use Rattle.calls.specs.Replies.{changeBox, changeRow, replyAnswer, replyOf}
@@ -103,34 +104,34 @@ module _
     Carries used r heaps′ shared′ lv′ ev′ output′ =
         (resultOf (replyOf b log escrow r) heaps′ shared′ lv′ ev′ output′
         ≡ carriedOn (tablesOf b log escrow heaps shared lv ev) (callIn bytes called) used output)
-        × AddedFits b (r .added)
+        × RowAdded b (r .held) (r .added)
 
     module _ (used : ℕ) {r : Change} where
       pub created : {p i : ℕ} {a : BoxAnswer} → called ≡ Create p i → r ≡ changeBox a used → a ≡ createOn b p i
           → Carries used r heaps shared lv ev output
-      unfolding byKind logRowsWith escrowRowsWith AddedFits
-      created e f g = (by-kind s output bytes called used (rw (e, f, g)), rw f tt)
+      unfolding byKind logRowsWith escrowRowsWith createOn
+      created e f g = (by-kind s output bytes called used (rw (e, f, g)), rw (f, g) (counts-kept _ b _ refl refl))
 
       pub started : {p : ℕ} {a : BoxAnswer} → called ≡ Start p → r ≡ changeBox a used → a ≡ startOn b p
           → Carries used r heaps shared lv ev output
-      unfolding byKind logRowsWith escrowRowsWith AddedFits
-      started e f g = (by-kind s output bytes called used (rw (e, f, g)), rw f tt)
+      unfolding byKind logRowsWith escrowRowsWith startOn
+      started e f g = (by-kind s output bytes called used (rw (e, f, g)), rw (f, g) (counts-kept _ b _ refl refl))
 
       pub yielded : {a : BoxAnswer} → called ≡ Yield → r ≡ changeBox a used → a ≡ yieldOn b → Carries used r heaps shared lv ev output
-      unfolding byKind logRowsWith escrowRowsWith AddedFits
-      yielded e f g = (by-kind s output bytes called used (rw (e, f, g)), rw f tt)
+      unfolding byKind logRowsWith escrowRowsWith yieldOn
+      yielded e f g = (by-kind s output bytes called used (rw (e, f, g)), rw (f, g) (counts-kept _ b _ refl refl))
 
       pub exited : {a : BoxAnswer} {left : List ℕ} → called ≡ Exit → r ≡ changeBox a used → a ≡ exitOn b → left ≡ exitHeaps b heaps
           → Carries used r left shared lv ev output
-      unfolding byKind logRowsWith escrowRowsWith AddedFits
-      exited e f g h = (by-kind s output bytes called used (rw (e, f, g, h)), rw f tt)
+      unfolding byKind logRowsWith escrowRowsWith exitOn
+      exited e f g h = (by-kind s output bytes called used (rw (e, f, g, h)), rw (f, g) (counts-kept _ b _ refl refl))
 
       pub attested : {o k : ℕ} {a : RowAnswer} {left : List ℕ} → called ≡ Attest o k → r ≡ changeRow a used
           → log-part.resultOf a left ≡ attestOn b (log .rows) heaps lv o k → Carries used r heaps shared left ev output
       unfolding byKind
       attested {o} {k} e f g = (
         by-kind s output bytes called used (rw (e, f, ← g)),
-        rw (f, ap (λ (x : log-part.LogResult). x .added) g) (attest-fits b (log .rows) heaps lv o k (ready s .log .few)),
+        rw (f, ap (λ (x : log-part.LogResult). x .held) g, ap (λ (x : log-part.LogResult). x .added) g) (attest-adds b (log .rows) heaps lv o k (ready s .log .few)),
       )
 
       pub protected : {i o k : ℕ} {d : Draw} {a : RowAnswer} {left : List ℕ} → called ≡ Protect i o k d → r ≡ changeRow a used
@@ -138,6 +139,6 @@ module _
       unfolding byKind
       protected {i} {o} {k} {d} e f g = (
         by-kind s output bytes called used (rw (e, f, ← g)),
-        rw (f, ap (λ (x : escrow-part.EscrowResult). x .added) g)
-            (protect-fits b (escrow .rows) heaps ev i o k d (ready s .runs) (ready s .escrow .few)),
+        rw (f, ap (λ (x : escrow-part.EscrowResult). x .held) g, ap (λ (x : escrow-part.EscrowResult). x .added) g)
+            (protect-adds b (escrow .rows) heaps ev i o k d (ready s .runs) (ready s .escrow .few)),
       )

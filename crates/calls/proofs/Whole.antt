@@ -1,6 +1,6 @@
 -- What the reader finds, and what the first test says, of the whole box. Assumes nothing.
 use Prim.Native.Nat.{ℕ}
-use mathlib.Core.Path.{_≡_}
+use mathlib.Core.Path.{_≡_, refl}
 use mathlib.Core.Bool.{true, false}
 use mathlib.Core.List.{List}
 use lib.ListN.{length}
@@ -23,7 +23,7 @@ use Rattle.state.specs.declared.LogTable.{LogTable}
 use Rattle.state.specs.declared.EscrowTable.{EscrowTable}
 use Rattle.state.specs.declared.Added.the-variants.{Nothing}
 use Rattle.state.specs.declared.Answer.{Answer}
-use Rattle.state.specs.NewRow.{logRowsWith, escrowRowsWith, AddedFits}
+use Rattle.state.specs.NewRow.{logRowsWith, escrowRowsWith, RowAdded}
 use Rattle.soundness.specs.Parts.{tablesOf, Lent}
 use Rattle.calls.specs.declared.Change.{Change}
 use Rattle.calls.specs.Replies.{changeAnswer, changeRefusal, replyAnswer, replyOf}
@@ -38,16 +38,16 @@ refusedOn t code number output =
 module _ {b : BoxRecord} {log : LogTable} {escrow : EscrowTable} {heaps shared lv ev output : List ℕ} {r : Change} {x : EntryResult} where
   pub nothing-changed : {code number : ℕ} → r ≡ changeRefusal b code number
       → refusedOn (tablesOf b log escrow heaps shared lv ev) code number output ≡ x
-      → (resultOf (replyOf b log escrow r) heaps shared lv ev output ≡ x) × AddedFits b (r .added)
-  unfolding logRowsWith escrowRowsWith AddedFits
-  nothing-changed e h = (rw e h, rw e tt)
+      → (resultOf (replyOf b log escrow r) heaps shared lv ev output ≡ x) × RowAdded b (r .held) (r .added)
+  unfolding logRowsWith escrowRowsWith RowAdded
+  nothing-changed e h = (rw e h, rw e (refl, refl))
 
   -- nor does that of a call with an answer alone
   pub no-row-added : {a : Answer} {used : ℕ} → r ≡ changeAnswer b Nothing a used
       → resultOf (replyAnswer b log escrow a used) heaps shared lv ev output ≡ x
-      → (resultOf (replyOf b log escrow r) heaps shared lv ev output ≡ x) × AddedFits b (r .added)
-  unfolding logRowsWith escrowRowsWith AddedFits
-  no-row-added e h = (rw e h, rw e tt)
+      → (resultOf (replyOf b log escrow r) heaps shared lv ev output ≡ x) × RowAdded b (r .held) (r .added)
+  unfolding logRowsWith escrowRowsWith RowAdded
+  no-row-added e h = (rw e h, rw e (refl, refl))
 
 -- ---- what the reader finds
 

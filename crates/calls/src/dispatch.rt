@@ -6,7 +6,7 @@ ghost use Rattle.record.specs.Meaning.{bytesIn, callIn, PartWithin, CallWithin}
 ghost use Rattle.ideal.specs.Layouts.{Sound};
 ghost use Rattle.soundness.specs.Parts.{tablesOf};
 ghost use Rattle.calls.specs.Entry.{resultOf, carriedOn};
-ghost use Rattle.state.specs.NewRow.{AddedFits};
+ghost use Rattle.state.specs.NewRow.{RowAdded};
 ghost use Rattle.calls.specs.Replies.{replyAnswer, replyOf};
 ghost use Rattle.calls.specs.Alone.{Alone};
 use crate::Change;
@@ -44,7 +44,7 @@ fn bytes_of(bytes: &[u8], part: Part) -> &[u8]
     &bytes[start..end]
 }
 
-// A call of a kind that alters neither table: it has an answer alone.
+// A call of a kind that alters neither the box record nor a table: it has an answer alone.
 fn answer_alone(
     b: BoxRecord,
     log: LogTable,
@@ -122,7 +122,7 @@ pub fn carry_out(
         ≡ carriedOn (tablesOf b log escrow (now (heaps .entry)) (now (shared .entry)) (now («log_values» .entry)) (now («escrow_values» .entry)))
         (callIn (now (bytes .entry)) called) used (now (output .entry))
         ⌝ }
-    ensures { λ r. ⌜ AddedFits b (r .added) ⌝ }
+    ensures { λ r. ⌜ RowAdded b (r .held) (r .added) ⌝ }
 {
     match called {
         Call::Create { place, identity } => change_box(create(b, place, identity), used),

@@ -6,7 +6,7 @@ ghost use mathlib.Core.Path.{_≡_};
 ghost use lib.ListN.{length};
 ghost use Rattle.ideal.specs.Layouts.{Sound};
 ghost use Rattle.soundness.specs.Parts.{tablesOf};
-ghost use Rattle.state.specs.NewRow.{AddedFits};
+ghost use Rattle.state.specs.NewRow.{RowAdded};
 ghost use Rattle.calls.specs.Entry.{resultOf, readyOn, soundOn, entryOn};
 ghost use Rattle.calls.specs.Replies.{replyOf};
 use answers::change_refusal;
@@ -85,7 +85,7 @@ pub fn call_sound(
         ≡ soundOn (tablesOf b log escrow (now (heaps .entry)) (now (shared .entry)) (now («log_values» .entry)) (now («escrow_values» .entry)))
         (now (bytes .entry)) (now (output .entry))
         ⌝ }
-    ensures { λ r. ⌜ AddedFits b (r .added) ⌝ }
+    ensures { λ r. ⌜ RowAdded b (r .held) (r .added) ⌝ }
 {
     match read_call(bytes) {
         Reading::Whole { call, used } => carry_out(
@@ -124,7 +124,7 @@ pub fn call_change(
         ≡ entryOn (tablesOf b log escrow (now (heaps .entry)) (now (shared .entry)) (now («log_values» .entry)) (now («escrow_values» .entry)))
         (now (bytes .entry)) (now (output .entry))
         ⌝ }
-    ensures { λ r. ⌜ AddedFits b (r .added) ⌝ }
+    ensures { λ r. ⌜ RowAdded b (r .held) (r .added) ⌝ }
 {
     if !is_ready(
         b,

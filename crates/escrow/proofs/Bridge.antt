@@ -25,7 +25,7 @@ use Rattle.state.specs.Answers.{settled}
 use Rattle.state.proofs.Settled.{answerOf, settledResult, Moves, laid-step}
 use Rattle.escrow.specs.Narrow.{EscrowFits, callerOf, heapByte, escrowOf, EscrowResult, moreEscrow, protectUnless, protectRefusal, protectOn}
 use Rattle.state.specs.Counts.{fullBy, Room}
-use Rattle.state.specs.NewRow.{logRowsWith, escrowRowsWith, AddedFits}
+use Rattle.state.specs.NewRow.{logRowsWith, escrowRowsWith, RowAdded}
 use Rattle.state.proofs.Rooms.{has-room}
 
 -- what protect and retrieve require of the escrow, of a sound one
@@ -60,17 +60,18 @@ protects b i o n d r l e =
 
 -- ---- a protect adds a row only where one is not used
 
-protected-fits : (r : ℕ) (b : BoxRecord) (rows : List EscrowRow) (values : List ℕ) (i j : ℕ) (d : Draw) (v : List ℕ)
-    → (r ≡ 0 → b .escrow .rows < 64) → AddedFits b (protectUnless r b rows values i j d v .added)
-unfolding protectUnless settled moreEscrow AddedFits
-protected-fits zero b rows values i j d v h = h refl
-protected-fits (suc r) b rows values i j d v h = tt
+protected-adds : (r : ℕ) (b : BoxRecord) (rows : List EscrowRow) (values : List ℕ) (i j : ℕ) (d : Draw) (v : List ℕ)
+    → (r ≡ 0 → b .escrow .rows < 64)
+    → RowAdded b (protectUnless r b rows values i j d v .held) (protectUnless r b rows values i j d v .added)
+unfolding protectUnless settled moreEscrow RowAdded
+protected-adds zero b rows values i j d v h = (refl, refl, h refl)
+protected-adds (suc r) b rows values i j d v h = (refl, refl)
 
-pub protect-fits : (b : BoxRecord) (rows : List EscrowRow) (heaps values : List ℕ) (i o n : ℕ) (d : Draw) → b .running ≤ 16
-    → b .escrow .rows ≤ 64 → AddedFits b (protectOn b rows heaps values i o n d .added)
+pub protect-adds : (b : BoxRecord) (rows : List EscrowRow) (heaps values : List ℕ) (i o n : ℕ) (d : Draw) → b .running ≤ 16
+    → b .escrow .rows ≤ 64 → RowAdded b (protectOn b rows heaps values i o n d .held) (protectOn b rows heaps values i o n d .added)
 unfolding protectOn
-protect-fits b rows heaps values i o n d runs few =
-    protected-fits _ b rows values _ _ _ _ (λ e. protects b i o n d runs few e .room .row)
+protect-adds b rows heaps values i o n d runs few =
+    protected-adds _ b rows values _ _ _ _ (λ e. protects b i o n d runs few e .room .row)
 
 -- ---- the host's tables with the row added, and the other parts of the escrow replaced
 

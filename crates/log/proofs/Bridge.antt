@@ -31,7 +31,7 @@ use Rattle.state.specs.Answers.{settled, answered}
 use Rattle.state.proofs.Settled.{answerOf}
 use Rattle.log.specs.Narrow.{LogFits, LogResult, logOf, moreLog, attested, attestOn, checkOn}
 use Rattle.state.specs.Counts.{Room, fullBy}
-use Rattle.state.specs.NewRow.{logRowsWith, escrowRowsWith, AddedFits}
+use Rattle.state.specs.NewRow.{logRowsWith, escrowRowsWith, RowAdded}
 use Rattle.state.proofs.Rooms.{has-room}
 use Rattle.pairs.proofs.Pairs.{paired-logged}
 
@@ -182,18 +182,19 @@ check-step t k e i g v used =
 
 -- ---- an attest adds a row only where one is not used
 
-attested-fits : (r : ℕ) (b : BoxRecord) (rows : List LogRow) (values : List ℕ) (i : ℕ) (g : Tag) (v : List ℕ)
-    → (r ≡ 0 → logged i g v (logOf b rows values) ≡ false → b .log .rows < 64) → AddedFits b (attested r b rows values i g v .added)
-unfolding attested settled moreLog AddedFits
-attested-fits zero b rows values i g v h =
-    by-cases (logged i g v (logOf b rows values)) (λ e. rw e tt) (λ e. rw e (h refl e))
-attested-fits (suc r) b rows values i g v h = tt
+attested-adds : (r : ℕ) (b : BoxRecord) (rows : List LogRow) (values : List ℕ) (i : ℕ) (g : Tag) (v : List ℕ)
+    → (r ≡ 0 → logged i g v (logOf b rows values) ≡ false → b .log .rows < 64)
+    → RowAdded b (attested r b rows values i g v .held) (attested r b rows values i g v .added)
+unfolding attested settled moreLog RowAdded
+attested-adds zero b rows values i g v h =
+    by-cases (logged i g v (logOf b rows values)) (λ e. rw e (refl, refl)) (λ e. rw e (refl, refl, h refl e))
+attested-adds (suc r) b rows values i g v h = (refl, refl)
 
-pub attest-fits : (b : BoxRecord) (rows : List LogRow) (heaps values : List ℕ) (o n : ℕ) → b .log .rows ≤ 64
-    → AddedFits b (attestOn b rows heaps values o n .added)
+pub attest-adds : (b : BoxRecord) (rows : List LogRow) (heaps values : List ℕ) (o n : ℕ) → b .log .rows ≤ 64
+    → RowAdded b (attestOn b rows heaps values o n .held) (attestOn b rows heaps values o n .added)
 unfolding attestOn
-attest-fits b rows heaps values o n few =
-    attested-fits _ b rows values _ _ _ (λ e f.
+attest-adds b rows heaps values o n few =
+    attested-adds _ b rows values _ _ _ (λ e f.
     let e₁ = passed 3 (eqb (b .running) 16) _ e in
     let e₂ = passed 10 (beyond 256 o n) _ e₁ in
     let other = failed 12 _ _ e₂ in

@@ -1,10 +1,7 @@
-// The log: the search for a row, attest and check.
+// Attest and check.
 ghost use mathlib.Core.Path.{_≡_};
-ghost use Prim.Native.Nat.{_+_, _≤_};
-ghost use lib.ListN.{length, take};
-ghost use Rattle.ideal.specs.Step.{isLogged, logged};
-ghost use Rattle.ideal.specs.Tables.{logTable, entryOf, entriesOf};
-ghost use Rattle.ideal.specs.Fit.{RowsFit};
+ghost use Prim.Native.Nat.{_≤_};
+ghost use lib.ListN.{length};
 ghost use Rattle.state.specs.Counts.{Room};
 ghost use Rattle.log.specs.Narrow.{LogFits, resultOf, moreLog, attestValue, attestOn, checkOn};
 use buffers::put;

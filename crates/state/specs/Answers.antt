@@ -1,4 +1,4 @@
--- What a call on a part of the box answers: refused, accepted, or settled by the first test that fails.
+-- What a call on a part of the box answers: refused, accepted, or settled by the first test that holds.
 use Prim.Native.Nat.{ℕ, zero, suc}
 use Rattle.state.specs.declared.Answer.{Answer}
 

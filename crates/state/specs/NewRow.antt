@@ -1,5 +1,6 @@
 -- The row that a call adds, if it adds one, and the tables with it.
-use Prim.Native.Nat.{_<_}
+use Prim.Native.Nat.{_+_, _<_}
+use mathlib.Core.Path.{_≡_}
 use mathlib.Core.List.{List}
 use lib.ListN.{set}
 use Rattle.ideal.specs.declared.BoxRecord.{BoxRecord}
@@ -26,6 +27,13 @@ logWith b added log = record { rows = logRowsWith b added (log .rows) }
 
 abbrev pub escrowWith : BoxRecord → Added → EscrowTable → EscrowTable
 escrowWith b added escrow = record { rows = escrowRowsWith b added (escrow .rows) }
+
+-- what is added, by the box records before and after: a row of the table whose used rows are one more, or nothing where
+-- neither are; and there is such a row
+unfoldable pub RowAdded : (before after : BoxRecord) → Added → Type 0
+RowAdded b c Nothing = (c .log .rows ≡ b .log .rows) × (c .escrow .rows ≡ b .escrow .rows)
+RowAdded b c (Log row) = (c .log .rows ≡ b .log .rows + 1) × (c .escrow .rows ≡ b .escrow .rows) × (b .log .rows < 64)
+RowAdded b c (Escrow row) = (c .log .rows ≡ b .log .rows) × (c .escrow .rows ≡ b .escrow .rows + 1) × (b .escrow .rows < 64)
 
 -- there is such a row
 unfoldable pub AddedFits : BoxRecord → Added → Type 0

@@ -2,7 +2,7 @@
 ghost use Prim.Native.Nat.{_+_, _*_, _≤_};
 ghost use lib.ListN.{length, take};
 ghost use Rattle.ideal.specs.Layouts.{Sound};
-ghost use Rattle.state.specs.NewRow.{AddedFits};
+ghost use Rattle.state.specs.NewRow.{RowAdded};
 ghost use Rattle.soundness.specs.Parts.{tablesOf};
 ghost use Rattle.sheet.specs.Sheet.{line};
 ghost use Rattle.sheet.specs.Stored.{AtFront};
@@ -79,7 +79,7 @@ pub fn next_line(
         (now (rest .entry)))
         (now (out .entry)) (now (out .exit)) (r .size)
         ⌝ }
-    ensures { λ r. ⌜ AddedFits b (r .added) ⌝ }
+    ensures { λ r. ⌜ RowAdded b (r .held) (r .added) ⌝ }
 {
     let mut output = [0u8; 1024];
     let change = calls::call_sound(

@@ -59,9 +59,9 @@ use Rattle.caif.specs.declared.LentLog.{LentLog}
 use Rattle.caif.specs.declared.LentEscrow.{LentEscrow}
 use Rattle.caif.specs.declared.Called.{Called}
 use Rattle.caif.specs.Lent.{lentTables, lentResult}
-use Rattle.caif.specs.Copied.{CalledOn}
+use Rattle.caif.specs.Copied.{LogRead, EscrowRead, CalledOn}
 use Rattle.caif.proofs.Calling.{Settles}
-use Rattle.caif.proofs.Names.{LogRead, EscrowRead, withLogRow, withEscrowRow, LogRowFits, EscrowRowFits}
+use Rattle.caif.proofs.Names.{withLogRow, withEscrowRow, LogRowFits, EscrowRowFits}
 use Rattle.caif.proofs.LentReply as R
 use Rattle.caif.proofs.LentReply.Laws as R′
 use Rattle.caif.proofs.LentLog as L

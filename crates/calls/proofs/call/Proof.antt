@@ -1,4 +1,5 @@
 use borrow.Author.Needs.{needs}
+use Rattle.state.proofs.NoRow.{added-fits}
 use Rattle.calls.proofs.call.Statement.{statement}
 use Rattle.calls.proofs.call.Tie as tie
 
@@ -6,7 +7,7 @@ call-change-requires : tie.Need-call-change-requires
 call-change-requires c κs = search needs
 
 reply-of-requires : tie.Need-reply-of-requires
-reply-of-requires c κs = c .before .before .before .before .before .before .before .before .before .before .call-change .ensures .1
+reply-of-requires c κs = added-fits _ _ _ (c .before .before .before .before .before .before .before .before .before .before .call-change .ensures .1)
 
 same-length : tie.Need-same-length
 same-length c = search needs

@@ -4,6 +4,7 @@ use mathlib.Core.Bool.{false}
 use native.Mathlib.Omega.{arith}
 use lib.ListN.{length}
 use borrow.Author.Needs.{needs}
+use Rattle.state.proofs.NoRow.{added-fits}
 use Rattle.soundness.specs.Parts.{tablesOf}
 use Rattle.turns.proofs.OneByOne.{Going, starts, at-end, at-room, part-length, further, some-used, more-fits, goes-on, at-last}
 use Rattle.turns.proofs.next_lines.Statement.{statement}
@@ -51,10 +52,10 @@ next-line-requires c κs =
     (now .inv .0 .kept .sound, omega (arith, part-length (now .out) (now .size), c .before .before .before .before .before .before .if1 .left))
 
 log-with-requires : tie.Need-log-with-requires Inv-loop μ-loop
-log-with-requires c κs = c .before .before .before .before .before .before .before .before .before .before .next-line .ensures .1
+log-with-requires c κs = added-fits _ _ _ (c .before .before .before .before .before .before .before .before .before .before .next-line .ensures .1)
 
 escrow-with-requires : tie.Need-escrow-with-requires Inv-loop μ-loop
-escrow-with-requires c κs = c .before .before .before .before .before .before .before .before .before .before .before .next-line .ensures .1
+escrow-with-requires c κs = added-fits _ _ _ (c .before .before .before .before .before .before .before .before .before .before .before .next-line .ensures .1)
 
 add-used : tie.Need-add-used Inv-loop μ-loop
 add-used c =

@@ -5,6 +5,7 @@ use contract.Running.{givenOf, tables, tablesOf}
 use denote.Triple.Spec.{tripleOf}
 use denote.Triple.Table.{entered, cited}
 use Rattle.state.specs.declared.EscrowTable.{EscrowTable}
+use Rattle.ideal.specs.Tables.{freshTables}
 use Rattle.rows.proofs.Kind.{Kind}
 use Rattle.rows.proofs.Held.{escrow-row, escrow-table}
 use Rattle.rows.proofs.copy_escrow as copy
@@ -33,7 +34,7 @@ unfolding code.routine tablesOf
 read-escrow-spec 𝓤 H 𝓜 𝓖 𝓡 =
     entered 𝓤 H (tripleOf 𝓤 H (𝓖 .A) self.signature (self.spec 𝓤 H (𝓖 .A) (𝓜 .mem) (𝓡 .run)))
     (tables 𝓤 H 𝓜 𝓡 code.env .C) (tables 𝓤 H 𝓜 𝓡 code.env .Λ) name code.function (code.unfolded 𝓤 H 𝓜 𝓡)
-    (read-rows-meets escrow-row escrow-table lent (λ (t : EscrowTable). t .rows) (λ (r : LentEscrow). r .whole) (λ (r : LentEscrow). r .table)
+    (read-rows-meets escrow-row escrow-table lent (λ (t : EscrowTable). t .rows) (λ (r : LentEscrow). r .whole) (λ (r : LentEscrow). r .table) (freshTables .escrowRows)
     copy-def.name all-def.name none-def.name 𝓤 H (𝓖 .A) (givenOf 𝓤 H 𝓜 𝓖)
     (λ κs a. self.clauses 𝓤 H (𝓖 .A) (𝓜 .mem) (𝓡 .run) κs a .ensures) (λ κs a r e p. factI 𝓤 _ _ p) (tablesOf 𝓤 H 𝓜 (tables 𝓤 H 𝓜 𝓡 code.env))
     (cited 𝓤 H (tripleOf 𝓤 H (𝓖 .A) copy.signature (copy.spec 𝓤 H (𝓖 .A) (𝓜 .mem) (𝓡 .run))) 𝓜 𝓡 code.env copy-def.name copy-def.routine code.calls-rows·copy-escrow (copy-thm.met 𝓤 H 𝓜 𝓖 𝓡))
