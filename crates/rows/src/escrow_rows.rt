@@ -42,14 +42,14 @@ fn escrow_table(rows: [EscrowRow; 64]) -> EscrowTable
     EscrowTable { rows }
 }
 
-// One row a turn into a local array: a table passed by value would be moved whole each turn.
+// As copy_log.
 pub fn copy_escrow(rows: &[EscrowRow]) -> EscrowTable
     requires { ⌜ length (now rows) ≡ 64 ⌝ }
     ensures { λ r. ⌜ r .rows ≡ now (rows .entry) ⌝ }
 {
     let mut held = blank_escrow();
     let mut i = 0;
-    while i < 64 {
+    while i < rows.len() {
         held[i] = escrow_row_at(rows, i);
         i = i + 1;
     }

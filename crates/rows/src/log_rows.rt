@@ -42,14 +42,15 @@ fn log_table(rows: [LogRow; 64]) -> LogTable
     LogTable { rows }
 }
 
-// One row a turn into a local array: a table passed by value would be moved whole each turn.
+// One row a turn into a local array: a table passed by value would be moved whole each turn. The count that ends the loop is
+// the slice's and not 64, so that the compiler makes one move of it and not 64.
 pub fn copy_log(rows: &[LogRow]) -> LogTable
     requires { ⌜ length (now rows) ≡ 64 ⌝ }
     ensures { λ r. ⌜ r .rows ≡ now (rows .entry) ⌝ }
 {
     let mut held = blank_log();
     let mut i = 0;
-    while i < 64 {
+    while i < rows.len() {
         held[i] = log_row_at(rows, i);
         i = i + 1;
     }
