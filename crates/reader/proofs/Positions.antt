@@ -9,58 +9,69 @@ use lib.ListN.{length, take, drop, length-drop}
 use lib.Dec.{ltb}
 use lib.Seq.{drop-drop}
 use borrow.Author.Tests.{lt-ltb, le-ltb}
-use Rattle.reader.specs.declared.Taken as taken
-use Rattle.reader.specs.declared.Taken.the-variants.{Number, Cut}
 use Rattle.reader.specs.declared.Three as three
 use Rattle.reader.specs.declared.Three.the-variants.{Numbers, Cut as CutThree}
 use Rattle.record.specs.declared.Fields.{Fields}
-use Rattle.record.specs.Layout.{Kind, stands}
-use Rattle.record.specs.Read.{Reading, cut, whole, field, contents, bytesField, fields}
-use Rattle.reader.specs.Scan.{takenAt, after, threeAt, callOf, ended}
+use Rattle.record.specs.Layout.{Kind, stands, Answers, gives, refuses}
+use Rattle.record.specs.Read.{Reading, refused, cut, whole, field, contents, bytesField, fields}
+use Rattle.reader.specs.Scan.{fieldAt, threeIn, after, threeAt, callOf, ended}
 
 module _ (bs : List ℕ) where
   -- going on from the position after a field
-  abbrev onTaken : (ℕ → List ℕ → Reading) → taken.Taken → Reading
-  onTaken next (Number x at) = next x (drop at bs)
-  onTaken next Cut = cut
+  abbrev onField : (ℕ → List ℕ → Reading) → Answers (ℕ × ℕ) → Reading
+  onField next (gives p) = next (p .0) (drop (p .1) bs)
+  onField next (refuses n) = refused n 0
 
   field-at : (at : ℕ) (here : Bool) (n : ℕ) (next : ℕ → List ℕ → Reading)
-      → field here n next (drop at bs) ≡ onTaken next (takenAt bs at here n)
-  unfolding field takenAt
+      → field here n next (drop at bs) ≡ onField next (fieldAt bs at here n)
+  unfolding field fieldAt cut
   field-at at false n next = refl
   field-at at true n next = rw (length-drop, drop-drop) (either (ltb (length bs - at) n) _)
     where
-      either : (b : Bool) (t : taken.Taken) → cond b cut (onTaken next t) ≡ onTaken next (cond b Cut t)
-      either true t = refl
-      either false t = refl
+      either : (b : Bool) (p : ℕ × ℕ) → cond b cut (onField next (gives p)) ≡ onField next (cond b (refuses 1) (gives p))
+      either true p = refl
+      either false p = refl
 
-  abbrev pub onThree : (ℕ → ℕ → ℕ → List ℕ → Reading) → three.Three → Reading
-  onThree next (Numbers x y z at) = next x y z (drop at bs)
-  onThree next CutThree = cut
+  abbrev onThree : (ℕ → ℕ → ℕ → List ℕ → Reading) → Answers (ℕ × ℕ × ℕ × ℕ) → Reading
+  onThree next (gives p) = next (p .0) (p .1) (p .2) (drop (p .3) bs)
+  onThree next (refuses n) = refused n 0
 
-  on-after : (next : ℕ → ℕ → ℕ → List ℕ → Reading) (k : ℕ → List ℕ → Reading) (m : ℕ → ℕ → three.Three) (t : taken.Taken)
-      → ((x at : ℕ) → k x (drop at bs) ≡ onThree next (m x at)) → onTaken k t ≡ onThree next (after t m)
+  on-after : (next : ℕ → ℕ → ℕ → List ℕ → Reading) (k : ℕ → List ℕ → Reading) (m : ℕ × ℕ → Answers (ℕ × ℕ × ℕ × ℕ)) (t : Answers (ℕ × ℕ))
+      → ((p : ℕ × ℕ) → k (p .0) (drop (p .1) bs) ≡ onThree next (m p)) → onField k t ≡ onThree next (after t m)
   unfolding after
-  on-after next k m (Number x at) h = h x at
-  on-after next k m Cut h = refl
+  on-after next k m (gives p) h = h p
+  on-after next k m (refuses n) h = refl
 
-  pub three-at : (at map bit n : ℕ) (next : ℕ → ℕ → ℕ → List ℕ → Reading) {r t : three.Three} → r ≡ threeAt bs at map bit n → r ≡ t
+  three-on : (at map bit n : ℕ) (next : ℕ → ℕ → ℕ → List ℕ → Reading)
       → field (stands map bit) n (λ x. field (stands map (bit + 1)) 8 (λ y. field (stands map (bit + 2)) 2 (next x y))) (drop at bs)
-      ≡ onThree next t
+      ≡ onThree next (threeAt bs at map bit n)
   unfolding threeAt
-  three-at at map bit n next e g =
-      rw (← g, e)
-      (field-at at (stands map bit) n _
-      ∙ on-after next _ _ (takenAt bs at (stands map bit) n) (λ x a.
-      field-at a (stands map (bit + 1)) 8 _
-      ∙ on-after next _ _ (takenAt bs a (stands map (bit + 1)) 8) (λ y b.
-      field-at b (stands map (bit + 2)) 2 (next x y)
-      ∙ on-after next _ _ (takenAt bs b (stands map (bit + 2)) 2) (λ z c. refl))))
+  three-on at map bit n next =
+      field-at at (stands map bit) n _
+      ∙ on-after next _ _ (fieldAt bs at (stands map bit) n) (λ x.
+      field-at (x .1) (stands map (bit + 1)) 8 _
+      ∙ on-after next _ _ (fieldAt bs (x .1) (stands map (bit + 1)) 8) (λ y.
+      field-at (y .1) (stands map (bit + 2)) 2 (next (x .0) (y .0))
+      ∙ on-after next _ _ (fieldAt bs (y .1) (stands map (bit + 2)) 2) (λ z. refl)))
+
+  -- by the case that the code found
+  module _ (at map bit n : ℕ) (next : ℕ → ℕ → ℕ → List ℕ → Reading) {r : three.Three} (e : threeIn r ≡ threeAt bs at map bit n) where
+    pub three-at : {x y z end : ℕ} → r ≡ Numbers x y z end
+        → field (stands map bit) n (λ x. field (stands map (bit + 1)) 8 (λ y. field (stands map (bit + 2)) 2 (next x y))) (drop at bs)
+        ≡ next x y z (drop end bs)
+    unfolding threeIn
+    three-at g = three-on at map bit n next ∙ rw (← e, g)
+
+    pub three-cut : r ≡ CutThree
+        → field (stands map bit) n (λ x. field (stands map (bit + 1)) 8 (λ y. field (stands map (bit + 2)) 2 (next x y))) (drop at bs)
+        ≡ cut
+    unfolding threeIn cut
+    three-cut g = three-on at map bit n next ∙ rw (← e, g)
 
   -- the six fields, up to the contents of the last
   pub fields-at : (map : ℕ) (next : Fields → List ℕ → List ℕ → Reading) {place identity offset at size number count start : ℕ}
-      {low high : three.Three} → low ≡ threeAt bs 2 map 1 1 → low ≡ Numbers place identity offset at
-      → high ≡ threeAt bs at map 4 2 → high ≡ Numbers size number count start
+      {low high : three.Three} → threeIn low ≡ threeAt bs 2 map 1 1 → low ≡ Numbers place identity offset at
+      → threeIn high ≡ threeAt bs at map 4 2 → high ≡ Numbers size number count start
       → fields map next (drop 2 bs)
       ≡ contents count (next (record { place = place; identity = identity; offset = offset; length = size; number = number }))
       (drop start bs)

@@ -11,30 +11,40 @@ use Rattle.reader.specs.declared.Three as three
 use Rattle.reader.specs.declared.Three.the-variants.{Numbers, Cut as CutThree}
 use Rattle.record.specs.declared.Fields.{Fields}
 use Rattle.record.specs.Call.{Call, report}
-use Rattle.record.specs.Layout.{Kind, stands, kindOf}
+use Rattle.record.specs.Layout.{Kind, stands, kindOf, Answers, gives, refuses}
 use Rattle.record.specs.Read.{Reading, whole, fromLittle, fields}
 
+-- what each case of a field's answer stands for: its number and the position after it, or the refusal 1
+unfoldable pub takenIn : taken.Taken → Answers (ℕ × ℕ)
+takenIn (Number x at) = gives (x, at)
+takenIn Cut = refuses 1
+
 -- a field of n bytes at a position: its number, 0 where its bit is down, and the position after it
-unfoldable pub takenAt : List ℕ → ℕ → Bool → ℕ → taken.Taken
-takenAt bs at false n = Number 0 at
-takenAt bs at true n = cond (ltb (length bs - at) n) Cut (Number (fromLittle (take n (drop at bs))) (at + n))
+unfoldable pub fieldAt : List ℕ → ℕ → Bool → ℕ → Answers (ℕ × ℕ)
+fieldAt bs at false n = gives (0, at)
+fieldAt bs at true n = cond (ltb (length bs - at) n) (refuses 1) (gives (fromLittle (take n (drop at bs)), at + n))
 
 -- the number fits n bytes, and the position lies within the record
 unfoldable pub TakenWithin : List ℕ → ℕ → taken.Taken → Type 0
 TakenWithin bs n (Number x at) = (x < 256 ^ n) × (at ≤ length bs)
 TakenWithin bs n Cut = Unit {0}
 
--- and then what follows a field
-unfoldable pub after : taken.Taken → (ℕ → ℕ → three.Three) → three.Three
-after (Number x at) next = next x at
-after Cut next = CutThree
+-- the same of three fields
+unfoldable pub threeIn : three.Three → Answers (ℕ × ℕ × ℕ × ℕ)
+threeIn (Numbers x y z at) = gives (x, y, z, at)
+threeIn CutThree = refuses 1
+
+-- what follows a value, unless it is refused
+unfoldable pub after : {A B : Type 0} → Answers A → (A → Answers B) → Answers B
+after (gives a) next = next a
+after (refuses n) next = refuses n
 
 -- three fields in a row, of n, 8 and 2 bytes, the first at the map's bit `bit`
-unfoldable pub threeAt : List ℕ → ℕ → ℕ → ℕ → ℕ → three.Three
+unfoldable pub threeAt : List ℕ → ℕ → ℕ → ℕ → ℕ → Answers (ℕ × ℕ × ℕ × ℕ)
 threeAt bs at map bit n =
-    after (takenAt bs at (stands map bit) n) λ x a.
-    after (takenAt bs a (stands map (bit + 1)) 8) λ y b.
-    after (takenAt bs b (stands map (bit + 2)) 2) λ z e. Numbers x y z e
+    after (fieldAt bs at (stands map bit) n) λ x.
+    after (fieldAt bs (x .1) (stands map (bit + 1)) 8) λ y.
+    after (fieldAt bs (y .1) (stands map (bit + 2)) 2) λ z. gives (x .0, y .0, z .0, z .1)
 
 -- the first and the third number fit, and the position lies within the record
 unfoldable pub ThreeWithin : List ℕ → ℕ → three.Three → Type 0

@@ -6,7 +6,7 @@ ghost use lib.ListN.{length, take, drop};
 ghost use Rattle.record.specs.Layout.{kindOf};
 ghost use Rattle.record.specs.Read.{fromLittle, read};
 ghost use Rattle.record.specs.Meaning.{bytesIn, callIn, readingIn, PartWithin, CallWithin, Within};
-ghost use Rattle.reader.specs.Scan.{takenAt, TakenWithin, threeAt, ThreeWithin, callOf, fieldsIn};
+ghost use Rattle.reader.specs.Scan.{takenIn, fieldAt, TakenWithin, threeIn, threeAt, ThreeWithin, callOf, fieldsIn};
 use fnv::Tag;
 use record::Call;
 use record::Draw;
@@ -59,7 +59,7 @@ fn number_at(bytes: &[u8], at: usize, width: usize) -> u64
 fn field_at(bytes: &[u8], at: usize, here: bool, width: usize) -> Taken
     requires { ⌜ at ≤ length (now bytes) ⌝ }
     requires { ⌜ width ≤ 8 ⌝ }
-    ensures { λ r. ⌜ r ≡ takenAt (now (bytes .entry)) at here width ⌝ }
+    ensures { λ r. ⌜ takenIn r ≡ fieldAt (now (bytes .entry)) at here width ⌝ }
     ensures { λ r. ⌜ TakenWithin (now (bytes .entry)) width r ⌝ }
 {
     if !here {
@@ -76,7 +76,7 @@ fn three_at(bytes: &[u8], at: usize, map: u8, bit: u8, width: usize) -> Three
     requires { ⌜ at ≤ length (now bytes) ⌝ }
     requires { ⌜ bit < 6 ⌝ }
     requires { ⌜ width ≤ 8 ⌝ }
-    ensures { λ r. ⌜ r ≡ threeAt (now (bytes .entry)) at map bit width ⌝ }
+    ensures { λ r. ⌜ threeIn r ≡ threeAt (now (bytes .entry)) at map bit width ⌝ }
     ensures { λ r. ⌜ ThreeWithin (now (bytes .entry)) width r ⌝ }
 {
     let Taken::Number(first, a) = field_at(bytes, at, has(map, bit), width) else {

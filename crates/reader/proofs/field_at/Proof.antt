@@ -1,13 +1,13 @@
 use native.Mathlib.Omega.{arith}
 use borrow.Author.Tests.{lt-ltb, le-ltb, not-true, not-false}
 use borrow.Author.Needs.{needs}
-use Rattle.reader.specs.Scan.{takenAt, TakenWithin}
+use Rattle.reader.specs.Scan.{takenIn, fieldAt, TakenWithin}
 use Rattle.record.proofs.LittleEndian.{zero-below}
 use Rattle.reader.proofs.field_at.Statement.{statement}
 use Rattle.reader.proofs.field_at.Tie as tie
 
 returns : tie.Need-returns
-unfolding takenAt TakenWithin
+unfolding takenIn fieldAt TakenWithin
 returns c =
     let a = c .before .before .args in
     (rw (not-true (a .here) (c .if1 .taken)), (zero-below (a .width), omega arith))
@@ -16,7 +16,7 @@ sub-if2 : tie.Need-sub-if2
 sub-if2 c = search needs
 
 returns-2 : tie.Need-returns-2
-unfolding takenAt TakenWithin
+unfolding takenIn fieldAt TakenWithin
 returns-2 c =
     let a = c .before .before .before .args in
     (rw (not-false (a .here) (c .before .if1 .left), lt-ltb _ _ (c .if2 .taken)), tt)
@@ -28,7 +28,7 @@ add-t6 : tie.Need-add-t6
 add-t6 c = search needs
 
 returns-3 : tie.Need-returns-3
-unfolding takenAt TakenWithin
+unfolding takenIn fieldAt TakenWithin
 returns-3 c =
     let a = c .before .before .before .before .args in (
       rw (not-false (a .here) (c .before .before .if1 .left), le-ltb _ _ (c .before .if2 .left), c .number-at .ensures .0),

@@ -6,7 +6,7 @@ use borrow.Author.Needs.{needs}
 use Rattle.record.specs.Read.{bytesField, fields}
 use Rattle.record.specs.Meaning.{bytesIn, readingIn, PartWithin, Within}
 use Rattle.reader.specs.Scan.{ThreeWithin, fieldsIn}
-use Rattle.reader.proofs.Positions.{three-at, fields-at, contents-cut, ended-at}
+use Rattle.reader.proofs.Positions.{three-at, three-cut, fields-at, contents-cut, ended-at}
 use Rattle.reader.proofs.read_fields.Statement.{statement}
 use Rattle.reader.proofs.read_fields.Tie as tie
 
@@ -22,7 +22,7 @@ enum-told c = search needs
 returns : tie.Need-returns
 unfolding readingIn fieldsIn fields bytesField Within
 returns c =
-    (sym (three-at (c .before .before .before .before .args .bytes .now) 2 _ 1 1 _ (c .before .before .three-at .ensures .0) (c .enum-told .given .1)), tt)
+    (sym (three-cut (c .before .before .before .before .args .bytes .now) 2 _ 1 1 _ (c .before .before .three-at .ensures .0) (c .enum-told .given .1)), tt)
 
 -- the place and the offset fit, and the position is in the record
 low : (p : tie.After-place)
@@ -46,7 +46,7 @@ returns-2 c =
     let p = c .before .before .before .before in
     let bs = p .before .before .before .before .args .bytes .now in
     let first = three-at bs 2 _ 1 1 _ (p .before .before .three-at .ensures .0) (p .place .given .1) in
-    (sym (first ∙ three-at bs _ _ 4 2 _ (c .before .before .three-at2 .ensures .0) (c .enum-told2 .given .1)), tt)
+    (sym (first ∙ three-cut bs _ _ 4 2 _ (c .before .before .three-at2 .ensures .0) (c .enum-told2 .given .1)), tt)
 
 -- the length and the count fit, and the position is in the record
 high : (s : tie.After-size)

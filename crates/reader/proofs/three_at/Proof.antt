@@ -1,10 +1,9 @@
 use Prim.Native.Nat.{_+_}
-use mathlib.Core.Path.{_≡_, sym, _∙_}
+use mathlib.Core.Path.{_≡_, sym, ap, _∙_}
 use native.Mathlib.Omega.{arith}
 use borrow.Author.Needs.{needs}
-use Rattle.reader.specs.declared.Taken.the-variants.{Number}
-use Rattle.record.specs.Layout.{stands}
-use Rattle.reader.specs.Scan.{takenAt, TakenWithin, after, threeAt, ThreeWithin}
+use Rattle.record.specs.Layout.{stands, gives}
+use Rattle.reader.specs.Scan.{takenIn, fieldAt, TakenWithin, threeIn, after, threeAt, ThreeWithin}
 use Rattle.reader.proofs.three_at.Statement.{statement}
 use Rattle.reader.proofs.three_at.Tie as tie
 
@@ -21,7 +20,7 @@ enum-told : tie.Need-enum-told
 enum-told c = search needs
 
 returns : tie.Need-returns
-unfolding threeAt after ThreeWithin
+unfolding takenIn threeIn threeAt after ThreeWithin
 returns c = (rw (← c .before .before .before .has .ensures, ← c .before .before .field-at .ensures .0, c .enum-told .given .1), tt)
 
 add-has : tie.Need-add-has
@@ -32,9 +31,10 @@ has-requires-2 c κs = search needs
 
 first : (c : tie.After-first)
     → let a = c .before .before .before .before .before .args in
-    takenAt (a .bytes .now) (a .at) (stands (a .map) (a .bit)) (a .width)
-    ≡ Number (c .first .given .0 .0) (c .first .given .0 .1 .0)
-first c = rw (← c .before .before .before .has .ensures) (sym (c .before .before .field-at .ensures .0) ∙ c .first .given .1)
+    fieldAt (a .bytes .now) (a .at) (stands (a .map) (a .bit)) (a .width)
+    ≡ gives (c .first .given .0 .0, c .first .given .0 .1 .0)
+unfolding takenIn
+first c = rw (← c .before .before .before .has .ensures) (sym (c .before .before .field-at .ensures .0) ∙ ap takenIn (c .first .given .1))
 
 field-at-requires-2 : tie.Need-field-at-requires-2
 unfolding TakenWithin
@@ -47,7 +47,7 @@ enum-told-2 : tie.Need-enum-told-2
 enum-told-2 c = search needs
 
 returns-2 : tie.Need-returns-2
-unfolding threeAt after ThreeWithin
+unfolding takenIn threeIn threeAt after ThreeWithin
 returns-2 c =
     (rw (first (c .before .before .before .before .before), ← c .before .before .before .has2 .ensures, ← c .before .before .field-at2 .ensures .0, c .enum-told2 .given .1), tt)
 
@@ -59,9 +59,10 @@ has-requires-3 c κs = search needs
 
 second : (c : tie.After-second)
     → let a = c .before .before .before .before .before .before .before .before .before .before .args in
-    takenAt (a .bytes .now) (c .before .before .before .before .before .first .given .0 .1 .0) (stands (a .map) (a .bit + 1)) 8
-    ≡ Number (c .second .given .0 .0) (c .second .given .0 .1 .0)
-second c = rw (← c .before .before .before .has2 .ensures) (sym (c .before .before .field-at2 .ensures .0) ∙ c .second .given .1)
+    fieldAt (a .bytes .now) (c .before .before .before .before .before .first .given .0 .1 .0) (stands (a .map) (a .bit + 1)) 8
+    ≡ gives (c .second .given .0 .0, c .second .given .0 .1 .0)
+unfolding takenIn
+second c = rw (← c .before .before .before .has2 .ensures) (sym (c .before .before .field-at2 .ensures .0) ∙ ap takenIn (c .second .given .1))
 
 field-at-requires-3 : tie.Need-field-at-requires-3
 unfolding TakenWithin
@@ -74,12 +75,12 @@ enum-told-3 : tie.Need-enum-told-3
 enum-told-3 c = search needs
 
 returns-3 : tie.Need-returns-3
-unfolding threeAt after ThreeWithin
+unfolding takenIn threeIn threeAt after ThreeWithin
 returns-3 c =
     (rw (first (c .before .before .before .before .before .before .before .before .before .before), second (c .before .before .before .before .before), ← c .before .before .before .has3 .ensures, ← c .before .before .field-at3 .ensures .0, c .enum-told3 .given .1), tt)
 
 returns-4 : tie.Need-returns-4
-unfolding threeAt after TakenWithin ThreeWithin
+unfolding takenIn threeIn threeAt after TakenWithin ThreeWithin
 returns-4 c =
     let s = c .before .before .before .before .before .before in
     let p = s .before .before .before .before .before in (
