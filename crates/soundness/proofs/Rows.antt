@@ -1,6 +1,6 @@
 -- The rows of a table, for the log and the escrow both: what one turn of a loop adds, and that the test of rows in one pass is
 -- the definition's clauses together. Assumes nothing.
-use Prim.Native.Nat.{ℕ, _+_, _-_, _≤_, _<_}
+use Prim.Native.Nat.{ℕ, _+_, _≤_, _<_}
 use mathlib.Core.Path.{_≡_, refl, sym, ap, _∙_}
 use mathlib.Core.Bool.{Bool, true, _&&_}
 use mathlib.Core.List.{List, [], _∷_}
@@ -8,8 +8,8 @@ use native.Mathlib.Omega.{arith}
 use native.Mathlib.Numerals.{add-one}
 use lib.Bits.{bitOr}
 use lib.Dec.{eqb, leb}
-use lib.ListN.{length, getD, take, drop, length-drop}
-use lib.Seq.{drop-cons, take-all}
+use lib.ListN.{length, getD, take, drop}
+use lib.Seq.{drop-cons}
 use borrow.Author.Tests.{eqb-true, leb-true, le-leb}
 use Rattle.ideal.specs.declared.LogRow.{LogRow}
 use Rattle.ideal.specs.declared.EscrowRow.{EscrowRow}
@@ -27,10 +27,6 @@ pub every-step : {A : Type 0} (p : A → Bool) (l : List A) (d : A) (i : ℕ) �
     → every p (drop i l) ≡ p (getD l i d) && every p (drop (i + 1) l)
 unfolding every
 every-step p l d i h = rw (drop-cons l i d h, add-one i)
-
--- the bytes from one on to the end
-pub to-end : (l : List ℕ) (i : ℕ) → take (length l - i) (drop i l) ≡ drop i l
-to-end l i = take-all (length l - i) (drop i l) (simp length-drop (omega arith))
 
 -- one row on, where a row's bits are joined
 pub join-step : {A : Type 0} (p : A → Bool) (bits : A → ℕ) → ((a : A) → eqb (bits a) 0 ≡ p a) → (l : List A) (d : A) (all i : ℕ)

@@ -4,7 +4,7 @@ use borrow.Author.Needs.{needs}
 use Rattle.ideal.proofs.Bools.{and-nil}
 use Rattle.ideal.specs.Soundness.{pass}
 use Rattle.soundness.specs.Tests.{tableSound, escrowSound}
-use Rattle.soundness.proofs.Rows.{to-end}
+use Rattle.buffers.proofs.Loops.{to-end}
 use Rattle.soundescrow.proofs.escrow_sound.Statement.{statement}
 use Rattle.soundescrow.proofs.escrow_sound.Tie as tie
 

@@ -9,7 +9,8 @@ use Rattle.ideal.proofs.Bools.{and-left, and-nil}
 use Rattle.ideal.specs.Soundness.{chained, pass}
 use Rattle.ideal.specs.Tables.{logTable}
 use Rattle.soundness.specs.Tests.{logRowRight, tableSound, logSound}
-use Rattle.soundness.proofs.Rows.{rows-clauses, to-end}
+use Rattle.soundness.proofs.Rows.{rows-clauses}
+use Rattle.buffers.proofs.Loops.{to-end}
 use Rattle.soundlog.proofs.log_sound.Statement.{statement}
 use Rattle.soundlog.proofs.log_sound.Tie as tie
 
