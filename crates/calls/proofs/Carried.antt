@@ -15,7 +15,6 @@ use Rattle.state.specs.declared.LogTable.{LogTable}
 use Rattle.state.specs.declared.EscrowTable.{EscrowTable}
 use Rattle.state.specs.declared.Answer.{Answer}
 use Rattle.state.specs.declared.BoxAnswer.{BoxAnswer}
-use Rattle.state.specs.declared.RowAnswer.{RowAnswer}
 use Rattle.state.specs.NewRow.{logRowsWith, escrowRowsWith, RowAdded}
 use Rattle.running.specs.Narrow.{startOn, yieldOn, reportOn}
 use Rattle.services.specs.Narrow.{createOn, exitOn, exitHeaps}
@@ -32,7 +31,7 @@ use Rattle.log.proofs.Bridge.{attest-adds}
 use Rattle.escrow.proofs.Bridge.{protect-adds}
 use Rattle.calls.specs.declared.Change.{Change}
 use Rattle.calls.specs.Entry.{resultOf, carriedOn}
-use Rattle.calls.specs.Replies.{changeBox, changeRow, replyAnswer, replyOf}
+use Rattle.calls.specs.Replies.{changeOf, replyAnswer, replyOf}
 use Rattle.calls.proofs.ByKind.{byKind, by-kind}
 use Rattle.calls.proofs.Ready.{ready}
 
@@ -107,26 +106,26 @@ module _
         × RowAdded b (r .held) (r .added)
 
     module _ (used : ℕ) {r : Change} where
-      pub created : {p i : ℕ} {a : BoxAnswer} → called ≡ Create p i → r ≡ changeBox a used → a ≡ createOn b p i
+      pub created : {p i : ℕ} {a : BoxAnswer} → called ≡ Create p i → r ≡ changeOf a used → a ≡ createOn b p i
           → Carries used r heaps shared lv ev output
       unfolding byKind logRowsWith escrowRowsWith createOn
       created e f g = (by-kind s output bytes called used (rw (e, f, g)), rw (f, g) (counts-kept _ b _ refl refl))
 
-      pub started : {p : ℕ} {a : BoxAnswer} → called ≡ Start p → r ≡ changeBox a used → a ≡ startOn b p
+      pub started : {p : ℕ} {a : BoxAnswer} → called ≡ Start p → r ≡ changeOf a used → a ≡ startOn b p
           → Carries used r heaps shared lv ev output
       unfolding byKind logRowsWith escrowRowsWith startOn
       started e f g = (by-kind s output bytes called used (rw (e, f, g)), rw (f, g) (counts-kept _ b _ refl refl))
 
-      pub yielded : {a : BoxAnswer} → called ≡ Yield → r ≡ changeBox a used → a ≡ yieldOn b → Carries used r heaps shared lv ev output
+      pub yielded : {a : BoxAnswer} → called ≡ Yield → r ≡ changeOf a used → a ≡ yieldOn b → Carries used r heaps shared lv ev output
       unfolding byKind logRowsWith escrowRowsWith yieldOn
       yielded e f g = (by-kind s output bytes called used (rw (e, f, g)), rw (f, g) (counts-kept _ b _ refl refl))
 
-      pub exited : {a : BoxAnswer} {left : List ℕ} → called ≡ Exit → r ≡ changeBox a used → a ≡ exitOn b → left ≡ exitHeaps b heaps
+      pub exited : {a : BoxAnswer} {left : List ℕ} → called ≡ Exit → r ≡ changeOf a used → a ≡ exitOn b → left ≡ exitHeaps b heaps
           → Carries used r left shared lv ev output
       unfolding byKind logRowsWith escrowRowsWith exitOn
       exited e f g h = (by-kind s output bytes called used (rw (e, f, g, h)), rw (f, g) (counts-kept _ b _ refl refl))
 
-      pub attested : {o k : ℕ} {a : RowAnswer} {left : List ℕ} → called ≡ Attest o k → r ≡ changeRow a used
+      pub attested : {o k : ℕ} {a : BoxAnswer} {left : List ℕ} → called ≡ Attest o k → r ≡ changeOf a used
           → log-part.resultOf a left ≡ attestOn b (log .rows) heaps lv o k → Carries used r heaps shared left ev output
       unfolding byKind
       attested {o} {k} e f g = (
@@ -134,7 +133,7 @@ module _
         rw (f, ap (λ (x : log-part.LogResult). x .held) g, ap (λ (x : log-part.LogResult). x .added) g) (attest-adds b (log .rows) heaps lv o k (ready s .log .few)),
       )
 
-      pub protected : {i o k : ℕ} {d : Draw} {a : RowAnswer} {left : List ℕ} → called ≡ Protect i o k d → r ≡ changeRow a used
+      pub protected : {i o k : ℕ} {d : Draw} {a : BoxAnswer} {left : List ℕ} → called ≡ Protect i o k d → r ≡ changeOf a used
           → escrow-part.resultOf a left ≡ protectOn b (escrow .rows) heaps ev i o k d → Carries used r heaps shared lv left output
       unfolding byKind
       protected {i} {o} {k} {d} e f g = (

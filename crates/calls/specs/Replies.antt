@@ -7,7 +7,6 @@ use Rattle.state.specs.declared.Added.{Added}
 use Rattle.state.specs.declared.Added.the-variants.{Nothing}
 use Rattle.state.specs.declared.Answer.{Answer}
 use Rattle.state.specs.declared.BoxAnswer.{BoxAnswer}
-use Rattle.state.specs.declared.RowAnswer.{RowAnswer}
 use Rattle.state.specs.NewRow.{logWith, escrowWith}
 use Rattle.calls.specs.declared.Change.{Change}
 use Rattle.calls.specs.declared.Reply.{Reply}
@@ -23,11 +22,8 @@ abbrev pub changeRefusal : BoxRecord → (code number : ℕ) → Change
 changeRefusal b code number =
     record { held = b; added = Nothing; code = code; number = number; used = 0; shown = 0 }
 
-abbrev pub changeBox : BoxAnswer → (used : ℕ) → Change
-changeBox r used = changeAnswer (r .held) Nothing (r .answer) used
-
-abbrev pub changeRow : RowAnswer → (used : ℕ) → Change
-changeRow r used = changeAnswer (r .held) (r .added) (r .answer) used
+abbrev pub changeOf : BoxAnswer → (used : ℕ) → Change
+changeOf r used = changeAnswer (r .held) (r .added) (r .answer) used
 
 -- ---- replies
 

@@ -1,7 +1,7 @@
 // What a call changes, from what the call on a part of the box answers, and the reply with whole tables.
 ghost use mathlib.Core.Path.{_≡_};
 ghost use Rattle.state.specs.NewRow.{AddedFits};
-ghost use Rattle.calls.specs.Replies.{changeRefusal, changeAnswer, changeBox, changeRow, replyOf};
+ghost use Rattle.calls.specs.Replies.{changeRefusal, changeAnswer, changeOf, replyOf};
 use crate::Change;
 use crate::Reply;
 use ideal::BoxRecord;
@@ -10,7 +10,6 @@ use state::Answer;
 use state::BoxAnswer;
 use state::EscrowTable;
 use state::LogTable;
-use state::RowAnswer;
 use state::escrow_with;
 use state::log_with;
 
@@ -41,16 +40,8 @@ pub fn change_answer(b: BoxRecord, added: Added, answer: Answer, used: usize) ->
     }
 }
 
-pub fn change_box(from: BoxAnswer, used: usize) -> Change
-    ensures { λ r. ⌜ r ≡ changeBox from used ⌝ }
-{
-    let held = from.held;
-    let answer = from.answer;
-    change_answer(held, Added::Nothing, answer, used)
-}
-
-pub fn change_row(from: RowAnswer, used: usize) -> Change
-    ensures { λ r. ⌜ r ≡ changeRow from used ⌝ }
+pub fn change_of(from: BoxAnswer, used: usize) -> Change
+    ensures { λ r. ⌜ r ≡ changeOf from used ⌝ }
 {
     let held = from.held;
     let added = from.added;

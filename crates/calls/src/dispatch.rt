@@ -11,8 +11,7 @@ ghost use Rattle.calls.specs.Replies.{replyAnswer, replyOf};
 ghost use Rattle.calls.specs.Alone.{Alone};
 use crate::Change;
 use crate::answers::change_answer;
-use crate::answers::change_box;
-use crate::answers::change_row;
+use crate::answers::change_of;
 use escrow::protect;
 use heap::heap_read;
 use heap::heap_write;
@@ -125,13 +124,13 @@ pub fn carry_out(
     ensures { λ r. ⌜ RowAdded b (r .held) (r .added) ⌝ }
 {
     match called {
-        Call::Create { place, identity } => change_box(create(b, place, identity), used),
-        Call::Start { place } => change_box(start(b, place), used),
-        Call::Yield => change_box(yield_running(b), used),
-        Call::Exit => change_box(exit_running(b, heaps), used),
+        Call::Create { place, identity } => change_of(create(b, place, identity), used),
+        Call::Start { place } => change_of(start(b, place), used),
+        Call::Yield => change_of(yield_running(b), used),
+        Call::Exit => change_of(exit_running(b, heaps), used),
         Call::Attest { offset, length } => {
             let a = attest(b, log, heaps, log_values, offset, length);
-            change_row(a, used)
+            change_of(a, used)
         }
         Call::Protect {
             identity: to,
@@ -140,7 +139,7 @@ pub fn carry_out(
             draw,
         } => {
             let a = protect(b, escrow, heaps, escrow_values, to, offset, length, draw);
-            change_row(a, used)
+            change_of(a, used)
         }
         _ => {
             let a = answer_alone(

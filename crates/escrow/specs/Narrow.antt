@@ -16,7 +16,7 @@ use Rattle.ideal.specs.Fit.{RowsFit}
 use Rattle.state.specs.declared.Answer.{Answer}
 use Rattle.state.specs.declared.Added.{Added}
 use Rattle.state.specs.declared.Added.the-variants.{Nothing, Escrow}
-use Rattle.state.specs.declared.RowAnswer.{RowAnswer}
+use Rattle.state.specs.declared.BoxAnswer.{BoxAnswer}
 use Rattle.state.specs.Counts.{fullBy}
 use Rattle.state.specs.Answers.{refusedWith, acceptedWith, settled}
 
@@ -51,7 +51,7 @@ pub record EscrowResult : Type 0 where
   pub answer : Answer
 
 -- an answer with the value bytes at exit
-abbrev pub resultOf : RowAnswer → List ℕ → EscrowResult
+abbrev pub resultOf : BoxAnswer → List ℕ → EscrowResult
 resultOf r values = record { held = r .held; added = r .added; values = values; answer = r .answer }
 
 abbrev pub keptEscrow : BoxRecord → List ℕ → Answer → EscrowResult

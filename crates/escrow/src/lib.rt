@@ -12,11 +12,11 @@ use ideal::Used;
 use record::Draw;
 use record::Handle;
 use state::Added;
+use state::BoxAnswer;
 use state::EscrowTable;
-use state::RowAnswer;
 use state::accepted;
 use state::is_full;
-use state::refused;
+use state::refuse;
 
 // One row and its value more.
 fn escrow_more(
@@ -26,7 +26,7 @@ fn escrow_more(
     recipient: u64,
     handle: Handle,
     value: &[u8],
-) -> RowAnswer
+) -> BoxAnswer
     requires { ⌜ (length (now values) ≡ 4096) × Room (b .escrow) (length (now value)) ⌝ }
     ensures { λ r. ⌜ resultOf r (now (values .exit)) ≡ moreEscrow b (now (values .entry)) (record { source = source; recipient = recipient; handle = handle }) (now (value .entry)) ⌝ }
 {
@@ -46,7 +46,7 @@ fn escrow_more(
     };
     let mut next = b;
     next.escrow = raised;
-    RowAnswer {
+    BoxAnswer {
         held: next,
         added: Added::Escrow(row),
         answer: accepted(handle.0),
@@ -62,24 +62,16 @@ fn protect_value(
     recipient: u64,
     draw: Draw,
     value: &[u8],
-) -> RowAnswer
+) -> BoxAnswer
     requires { ⌜ (b .escrow .rows ≤ 64) × (length (now values) ≡ 4096) × (length (now value) ≤ 256) ⌝ }
     ensures { λ r. ⌜ resultOf r (now (values .exit)) ≡ protectValue b (escrow .rows) (now (values .entry)) source recipient draw (now (value .entry)) ⌝ }
 {
     if draw.0 >= 281474976710656 {
-        return RowAnswer {
-            held: b,
-            added: Added::Nothing,
-            answer: refused(12),
-        };
+        return refuse(b, 12);
     }
     let used = b.escrow;
     if is_full(used, value.len()) {
-        return RowAnswer {
-            held: b,
-            added: Added::Nothing,
-            answer: refused(14),
-        };
+        return refuse(b, 14);
     }
     let rows = escrow.rows;
     let handle = free_handle(rows, used.rows as usize, value.len() as u16, draw);
@@ -96,30 +88,18 @@ pub fn protect(
     offset: u16,
     size: u16,
     draw: Draw,
-) -> RowAnswer
+) -> BoxAnswer
     requires { ⌜ (b .running ≤ 16) × (length (now heaps) ≡ 4096) × EscrowFits (b .escrow) (escrow .rows) (now values) ⌝ }
     ensures { λ r. ⌜ resultOf r (now (values .exit)) ≡ protectOn b (escrow .rows) (now (heaps .entry)) (now (values .entry)) recipient offset size draw ⌝ }
 {
     if b.running == 16 {
-        return RowAnswer {
-            held: b,
-            added: Added::Nothing,
-            answer: refused(4),
-        };
+        return refuse(b, 4);
     }
     if recipient == 0 {
-        return RowAnswer {
-            held: b,
-            added: Added::Nothing,
-            answer: refused(9),
-        };
+        return refuse(b, 9);
     }
     if offset as usize + size as usize > 256 {
-        return RowAnswer {
-            held: b,
-            added: Added::Nothing,
-            answer: refused(11),
-        };
+        return refuse(b, 11);
     }
     let place = b.running as usize;
     let start = 256 * place + offset as usize;

@@ -18,7 +18,7 @@ use Rattle.ideal.specs.Fit.{RowsFit}
 use Rattle.state.specs.declared.Answer.{Answer}
 use Rattle.state.specs.declared.Added.{Added}
 use Rattle.state.specs.declared.Added.the-variants.{Nothing, Log}
-use Rattle.state.specs.declared.RowAnswer.{RowAnswer}
+use Rattle.state.specs.declared.BoxAnswer.{BoxAnswer}
 use Rattle.state.specs.Counts.{fullBy}
 use Rattle.state.specs.Answers.{refusedWith, acceptedWith, settled, answered}
 
@@ -39,7 +39,7 @@ pub record LogResult : Type 0 where
   pub answer : Answer
 
 -- an answer with the value bytes at exit
-abbrev pub resultOf : RowAnswer → List ℕ → LogResult
+abbrev pub resultOf : BoxAnswer → List ℕ → LogResult
 resultOf r values = record { held = r .held; added = r .added; values = values; answer = r .answer }
 
 -- the log that the used rows stand for

@@ -13,14 +13,15 @@ use ideal::Used;
 use pairs::in_log;
 use state::Added;
 use state::Answer;
+use state::BoxAnswer;
 use state::LogTable;
-use state::RowAnswer;
 use state::accepted;
 use state::is_full;
+use state::refuse;
 use state::refused;
 
 // One row and its value more.
-fn log_more(b: BoxRecord, values: &mut [u8], identity: u64, tag: Tag, value: &[u8]) -> RowAnswer
+fn log_more(b: BoxRecord, values: &mut [u8], identity: u64, tag: Tag, value: &[u8]) -> BoxAnswer
     requires { ⌜ (length (now values) ≡ 4096) × Room (b .log) (length (now value)) ⌝ }
     ensures { λ r. ⌜ resultOf r (now (values .exit)) ≡ moreLog b (now (values .entry)) identity tag (now (value .entry)) ⌝ }
 {
@@ -39,7 +40,7 @@ fn log_more(b: BoxRecord, values: &mut [u8], identity: u64, tag: Tag, value: &[u
     };
     let mut next = b;
     next.log = raised;
-    RowAnswer {
+    BoxAnswer {
         held: next,
         added: Added::Log(row),
         answer: accepted(tag.0),
@@ -54,25 +55,21 @@ fn attest_value(
     identity: u64,
     tag: Tag,
     value: &[u8],
-) -> RowAnswer
+) -> BoxAnswer
     requires { ⌜ LogFits (b .log) (log .rows) (now values) × (length (now value) ≤ 256) ⌝ }
     ensures { λ r. ⌜ resultOf r (now (values .exit)) ≡ attestValue b (log .rows) (now (values .entry)) identity tag (now (value .entry)) ⌝ }
 {
     let used = b.log;
     let rows = log.rows;
     if in_log(rows, used.rows as usize, values, identity, tag, value) {
-        return RowAnswer {
+        return BoxAnswer {
             held: b,
             added: Added::Nothing,
             answer: accepted(tag.0),
         };
     }
     if is_full(used, value.len()) {
-        return RowAnswer {
-            held: b,
-            added: Added::Nothing,
-            answer: refused(13),
-        };
+        return refuse(b, 13);
     }
     log_more(b, values, identity, tag, value)
 }
@@ -85,23 +82,15 @@ pub fn attest(
     values: &mut [u8],
     offset: u16,
     size: u16,
-) -> RowAnswer
+) -> BoxAnswer
     requires { ⌜ (b .running ≤ 16) × (length (now heaps) ≡ 4096) × LogFits (b .log) (log .rows) (now values) ⌝ }
     ensures { λ r. ⌜ resultOf r (now (values .exit)) ≡ attestOn b (log .rows) (now (heaps .entry)) (now (values .entry)) offset size ⌝ }
 {
     if b.running == 16 {
-        return RowAnswer {
-            held: b,
-            added: Added::Nothing,
-            answer: refused(4),
-        };
+        return refuse(b, 4);
     }
     if offset as usize + size as usize > 256 {
-        return RowAnswer {
-            held: b,
-            added: Added::Nothing,
-            answer: refused(11),
-        };
+        return refuse(b, 11);
     }
     let place = b.running as usize;
     let heap = 256 * place;

@@ -7,6 +7,7 @@ use Rattle.ideal.specs.declared.BoxRecord.{BoxRecord}
 use Rattle.ideal.specs.Step.{Tests, accept, _then_, first}
 use Rattle.ideal.specs.History.{ones}
 use Rattle.state.specs.declared.Answer.{Answer}
+use Rattle.state.specs.declared.Added.the-variants.{Nothing}
 use Rattle.state.specs.declared.BoxAnswer.{BoxAnswer}
 use Rattle.state.specs.Answers.{refusedWith, settled, answered}
 
@@ -32,11 +33,9 @@ boxWithRunning b p = record { taken = b .taken; running = p; identities = b .ide
 
 -- ---- the calls
 
-abbrev pub refusedBox : BoxRecord → (code : ℕ) → BoxAnswer
-refusedBox b code = record { held = b; answer = refusedWith code }
-
 abbrev pub settledBox : (refusal : ℕ) → (before after : BoxRecord) → (number : ℕ) → BoxAnswer
-settledBox refusal before after number = record { held = settled refusal before after; answer = answered refusal number }
+settledBox refusal before after number =
+    record { held = settled refusal before after; added = Nothing; answer = answered refusal number }
 
 unfoldable pub startOn : BoxRecord → (place : ℕ) → BoxAnswer
 startOn b p = settledBox (first (startTests b p)) b (boxWithRunning b p) 0

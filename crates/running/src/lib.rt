@@ -1,21 +1,12 @@
 // Start, yield and report: a place runs from its start until a yield or an exit.
 ghost use mathlib.Core.Path.{_≡_};
-ghost use Rattle.running.specs.Narrow.{refusedBox, startOn, yieldOn, reportOn};
+ghost use Rattle.running.specs.Narrow.{startOn, yieldOn, reportOn};
 use ideal::BoxRecord;
+use state::Added;
 use state::Answer;
 use state::BoxAnswer;
 use state::accepted;
-use state::refused;
-
-// A refusal leaves the box record.
-pub fn refuse(b: BoxRecord, code: u8) -> BoxAnswer
-    ensures { λ r. ⌜ r ≡ refusedBox b code ⌝ }
-{
-    BoxAnswer {
-        held: b,
-        answer: refused(code),
-    }
-}
+use state::refuse;
 
 pub fn start(b: BoxRecord, place: u8) -> BoxAnswer
     ensures { λ r. ⌜ r ≡ startOn b place ⌝ }
@@ -34,6 +25,7 @@ pub fn start(b: BoxRecord, place: u8) -> BoxAnswer
     next.running = place;
     BoxAnswer {
         held: next,
+        added: Added::Nothing,
         answer: accepted(0),
     }
 }
@@ -49,6 +41,7 @@ pub fn yield_running(b: BoxRecord) -> BoxAnswer
     next.running = 16;
     BoxAnswer {
         held: next,
+        added: Added::Nothing,
         answer: accepted(0),
     }
 }

@@ -5,9 +5,10 @@ ghost use Rattle.ideal.specs.Tables.{takenMap};
 ghost use Rattle.services.specs.Narrow.{Leaving, createOn, exitOn, exitHeaps};
 use buffers::clear;
 use ideal::BoxRecord;
-use running::refuse;
+use state::Added;
 use state::BoxAnswer;
 use state::accepted;
+use state::refuse;
 
 // The bit of a place in the map of taken places.
 fn bit_of(place: u8) -> u16
@@ -37,6 +38,7 @@ pub fn create(b: BoxRecord, place: u8, identity: u64) -> BoxAnswer
     next.identities[p] = identity;
     BoxAnswer {
         held: next,
+        added: Added::Nothing,
         answer: accepted(place as u64),
     }
 }
@@ -62,6 +64,7 @@ pub fn exit_running(b: BoxRecord, heaps: &mut [u8]) -> BoxAnswer
     next.running = 16;
     BoxAnswer {
         held: next,
+        added: Added::Nothing,
         answer: accepted(0),
     }
 }

@@ -10,7 +10,7 @@ pub use fresh::fresh_log;
 pub use fresh::fresh_record;
 pub use full::is_full;
 ghost use mathlib.Core.Path.{_≡_};
-ghost use Rattle.state.specs.Answers.{refusedWith, acceptedWith};
+ghost use Rattle.state.specs.Answers.{refusedWith, refusedBox, acceptedWith};
 use ideal::BoxRecord;
 use ideal::EscrowRow;
 use ideal::LogRow;
@@ -30,11 +30,6 @@ pub struct Answer {
     pub shown: u16,
 }
 
-pub struct BoxAnswer {
-    pub held: BoxRecord,
-    pub answer: Answer,
-}
-
 // The row that a call adds to a table, if it adds one. What comes back is this row, and not the table: a table by value is
 // moved whole.
 pub enum Added {
@@ -43,7 +38,8 @@ pub enum Added {
     Escrow(EscrowRow),
 }
 
-pub struct RowAnswer {
+// What a call that may alter the box record or a table gives.
+pub struct BoxAnswer {
     pub held: BoxRecord,
     pub added: Added,
     pub answer: Answer,
@@ -56,6 +52,17 @@ pub fn refused(code: u8) -> Answer
         code,
         number: 0,
         shown: 0,
+    }
+}
+
+// A refusal leaves the box record, and adds no row.
+pub fn refuse(b: BoxRecord, code: u8) -> BoxAnswer
+    ensures { λ r. ⌜ r ≡ refusedBox b code ⌝ }
+{
+    BoxAnswer {
+        held: b,
+        added: Added::Nothing,
+        answer: refused(code),
     }
 }
 

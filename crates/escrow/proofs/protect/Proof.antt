@@ -10,25 +10,25 @@ use Rattle.escrow.specs.Narrow.{protectUnless, protectValue, protectRefu
 use Rattle.escrow.proofs.protect.Statement.{statement}
 use Rattle.escrow.proofs.protect.Tie as tie
 
-refused-requires : tie.Need-refused-requires
-refused-requires c κs = search needs
+refuse-requires : tie.Need-refuse-requires
+refuse-requires c κs = search needs
 
 returns : tie.Need-returns
 unfolding protectOn protectRefusal protectUnless first settled
-returns c = simp (eq-eqb _ _ (c .before .if1 .taken), c .refused .ensures)
+returns c = simp (eq-eqb _ _ (c .before .if1 .taken), c .refuse .ensures)
 
-refused-requires-2 : tie.Need-refused-requires-2
-refused-requires-2 c κs = search needs
+refuse-requires-2 : tie.Need-refuse-requires-2
+refuse-requires-2 c κs = search needs
 
 returns-2 : tie.Need-returns-2
 unfolding protectOn protectRefusal protectUnless first settled
-returns-2 c = simp (ne-eqb _ _ (c .before .before .if1 .left), eq-eqb _ _ (c .before .if2 .taken), c .refused2 .ensures)
+returns-2 c = simp (ne-eqb _ _ (c .before .before .if1 .left), eq-eqb _ _ (c .before .if2 .taken), c .refuse2 .ensures)
 
 add-if3 : tie.Need-add-if3
 add-if3 c = search needs
 
-refused-requires-3 : tie.Need-refused-requires-3
-refused-requires-3 c κs = search needs
+refuse-requires-3 : tie.Need-refuse-requires-3
+refuse-requires-3 c κs = search needs
 
 returns-3 : tie.Need-returns-3
 unfolding protectOn protectRefusal protectUnless first settled beyond
@@ -37,7 +37,7 @@ returns-3 c =
       ne-eqb _ _ (c .before .before .before .if1 .left),
       ne-eqb _ _ (c .before .before .if2 .left),
       lt-ltb _ _ (c .before .if3 .taken),
-      c .refused3 .ensures,
+      c .refuse3 .ensures,
     )
 
 cast-place : tie.Need-cast-place
@@ -88,12 +88,12 @@ pub protect-spec : {M : Type 1} → statement M
 protect-spec =
     tie.close
     (tie.spec
-    refused-requires
+    refuse-requires
     returns
-    refused-requires-2
+    refuse-requires-2
     returns-2
     add-if3
-    refused-requires-3
+    refuse-requires-3
     returns-3
     cast-place
     mul-start

@@ -8,24 +8,24 @@ use Rattle.state.proofs.Rooms.{has-room}
 use Rattle.escrow.proofs.protect_value.Statement.{statement}
 use Rattle.escrow.proofs.protect_value.Tie as tie
 
-refused-requires : tie.Need-refused-requires
-refused-requires c κs = search needs
+refuse-requires : tie.Need-refuse-requires
+refuse-requires c κs = search needs
 
 returns : tie.Need-returns
 unfolding protectValue protectUnless first settled
-returns c = simp (le-leb _ _ (c .before .if1 .taken), c .refused .ensures)
+returns c = simp (le-leb _ _ (c .before .if1 .taken), c .refuse .ensures)
 
 is-full-requires : tie.Need-is-full-requires
 is-full-requires c κs = search needs
 
-refused-requires-2 : tie.Need-refused-requires-2
-refused-requires-2 c κs = search needs
+refuse-requires-2 : tie.Need-refuse-requires-2
+refuse-requires-2 c κs = search needs
 
 returns-2 : tie.Need-returns-2
 unfolding protectValue protectUnless first settled
 returns-2 c =
     let small = lt-leb _ _ (c .before .before .before .before .if1 .left) in
-    simp (small, sym (c .before .before .is-full .ensures) ∙ c .before .if2 .taken, c .refused2 .ensures)
+    simp (small, sym (c .before .before .is-full .ensures) ∙ c .before .if2 .taken, c .refuse2 .ensures)
 
 cast-free-handle : tie.Need-cast-free-handle
 cast-free-handle c = search needs
@@ -58,10 +58,10 @@ pub protect-value-spec : {M : Type 1} → statement M
 protect-value-spec =
     tie.close
     (tie.spec
-    refused-requires
+    refuse-requires
     returns
     is-full-requires
-    refused-requires-2
+    refuse-requires-2
     returns-2
     cast-free-handle
     cast-free-handle-2

@@ -10,23 +10,23 @@ use Rattle.log.specs.Narrow.{attested, attestValue, attestOn}
 use Rattle.log.proofs.attest.Statement.{statement}
 use Rattle.log.proofs.attest.Tie as tie
 
-refused-requires : tie.Need-refused-requires
-refused-requires c κs = search needs
+refuse-requires : tie.Need-refuse-requires
+refuse-requires c κs = search needs
 
 returns : tie.Need-returns
 unfolding attestOn attested first settled
-returns c = simp (eq-eqb _ _ (c .before .if1 .taken), c .refused .ensures)
+returns c = simp (eq-eqb _ _ (c .before .if1 .taken), c .refuse .ensures)
 
 add-if2 : tie.Need-add-if2
 add-if2 c = search needs
 
-refused-requires-2 : tie.Need-refused-requires-2
-refused-requires-2 c κs = search needs
+refuse-requires-2 : tie.Need-refuse-requires-2
+refuse-requires-2 c κs = search needs
 
 returns-2 : tie.Need-returns-2
 unfolding attestOn attested first beyond settled
 returns-2 c =
-    simp (ne-eqb _ _ (c .before .before .if1 .left), lt-ltb _ _ (c .before .if2 .taken), c .refused2 .ensures)
+    simp (ne-eqb _ _ (c .before .before .if1 .left), lt-ltb _ _ (c .before .if2 .taken), c .refuse2 .ensures)
 
 cast-place : tie.Need-cast-place
 cast-place c = search needs
@@ -90,10 +90,10 @@ pub attest-spec : {M : Type 1} → statement M
 attest-spec =
     tie.close
     (tie.spec
-    refused-requires
+    refuse-requires
     returns
     add-if2
-    refused-requires-2
+    refuse-requires-2
     returns-2
     cast-place
     mul-heap

@@ -27,8 +27,8 @@ returns c =
 is-full-requires : tie.Need-is-full-requires
 is-full-requires c κs = search needs
 
-refused-requires : tie.Need-refused-requires
-refused-requires c κs = search needs
+refuse-requires : tie.Need-refuse-requires
+refuse-requires c κs = search needs
 
 same-length-2 : tie.Need-same-length-2
 same-length-2 c = search needs
@@ -39,7 +39,7 @@ returns-2 c =
     simp (
       sym (c .before .before .before .before .in-log .ensures) ∙ c .before .before .before .if1 .left,
       sym (c .before .before .is-full .ensures) ∙ c .before .if2 .taken,
-      c .refused .ensures,
+      c .refuse .ensures,
     )
 
 log-more-requires : tie.Need-log-more-requires
@@ -69,7 +69,7 @@ attest-value-spec =
     same-length
     returns
     is-full-requires
-    refused-requires
+    refuse-requires
     same-length-2
     returns-2
     log-more-requires

@@ -1,6 +1,6 @@
 use borrow.Author.Needs.{needs}
-use Rattle.running.proofs.refuse.Statement.{statement}
-use Rattle.running.proofs.refuse.Tie as tie
+use Rattle.state.proofs.refuse.Statement.{statement}
+use Rattle.state.proofs.refuse.Tie as tie
 
 refused-requires : tie.Need-refused-requires
 refused-requires c κs = search needs
