@@ -39,7 +39,7 @@ fn rest_zero(s: &[u8]) -> bool
 pub fn all_zero(s: &[u8]) -> bool
     ensures { λ r. ⌜ r ≡ allZero (now (s .entry)) ⌝ }
 {
-    let quarter = s.len() / 4;
+    let quarter = s.len() >> 2;
     let second = quarter + quarter;
     let third = second + quarter;
     let fourth = third + quarter;
