@@ -38,7 +38,7 @@ use denote.Triple.Walked.{says, Stays, stay-none-slice, walkOf, goes-none-slice,
 use denote.Exit.{yes}
 use Rattle.rows.proofs.Says.{Ensures, asking, saying, Tells, says-so}
 use Rattle.rows.proofs.Kind.{Kind, R, byVal, ref, val, tells, makes, lawful}
-use Rattle.caif.specs.Copied.{RowsRead}
+use Rattle.caif.specs.Copied.{ReadOrFresh}
 use Rattle.caif.proofs.Arms.{is-true, is-false}
 
 -- the kinds of row, of table, and of what is read, with what the last two hold; and the names of the three functions that are called
@@ -53,7 +53,7 @@ module _ (k t l : Kind) (rows : t .type .D → List (k .type .D)) (whole : l .ty
   Lent = l .type .D
 
   abbrev Reads : Lent → List Row → Type 0
-  Reads r ys = RowsRead fresh (whole r) (rows (table r)) ys
+  Reads r ys = ReadOrFresh fresh (whole r) (rows (table r)) ys
 
   -- ---- the signature, the contract and the code
   abbrev signature : Signature
@@ -122,12 +122,12 @@ module _ (k t l : Kind) (rows : t .type .D → List (k .type .D)) (whole : l .ty
 
   -- ---- what is read, by how the test came out
   read-yes : (ys : List Row) (bs : Table) (r : Lent) → T (eqb (length ys) 64) → rows bs ≡ ys → Whole bs r → Reads r ys
-  read-yes ys bs r held eb e = record { counted = e .0 ∙ sym (is-true (eqb (length ys) 64) held); same = λ n. ap rows (e .1) ∙ eb; other = λ n. absurd (n (eqb-true (length ys) 64 (is-true (eqb (length ys) 64) held))) }
+  read-yes ys bs r held eb e = record { read = record { counted = e .0 ∙ sym (is-true (eqb (length ys) 64) held); same = λ n. ap rows (e .1) ∙ eb }; other = λ n. absurd (n (eqb-true (length ys) 64 (is-true (eqb (length ys) 64) held))) }
 
   read-no : (ys : List Row) (r : Lent) → T (not (eqb (length ys) 64)) → Fresh r → Reads r ys
   read-no ys r failed e =
       let f : eqb (length ys) 64 ≡ false = is-false (eqb (length ys) 64) failed in
-      record { counted = e .0 ∙ sym f; same = λ n. absurd (true≢false (sym (eq-eqb (length ys) 64 n) ∙ f)); other = λ n. e .1 }
+      record { read = record { counted = e .0 ∙ sym f; same = λ n. absurd (true≢false (sym (eq-eqb (length ys) 64 n) ∙ f)) }; other = λ n. e .1 }
 
   -- the machine value of what is read, and that it is the only one
   abbrev mach : Lent → Val

@@ -22,17 +22,21 @@ use Rattle.caif.specs.Lent.{lentTables, lentResult}
 
 -- ---- lent rows, read
 
--- whether they are 64, and a copy of them, or else fresh rows
-pub record RowsRead {Row : Type 0} (fresh : List Row) (whole : Bool) (copy rows : List Row) : Type 0 where
+-- whether they are 64, and then a copy of them
+pub record RowsRead {Row : Type 0} (whole : Bool) (copy rows : List Row) : Type 0 where
   pub counted : whole ≡ eqb (length rows) 64
   pub same : length rows ≡ 64 → copy ≡ rows
+
+-- and fresh rows where they are not 64
+pub record ReadOrFresh {Row : Type 0} (fresh : List Row) (whole : Bool) (copy rows : List Row) : Type 0 where
+  pub read : RowsRead whole copy rows
   pub other : (length rows ≡ 64 → ⊥) → copy ≡ fresh
 
 abbrev pub LogRead : LentLog → List LogRow → Type 0
-LogRead r rows = RowsRead (freshTables .logRows) (r .whole) (r .table .rows) rows
+LogRead r rows = ReadOrFresh (freshTables .logRows) (r .whole) (r .table .rows) rows
 
 abbrev pub EscrowRead : LentEscrow → List EscrowRow → Type 0
-EscrowRead r rows = RowsRead (freshTables .escrowRows) (r .whole) (r .table .rows) rows
+EscrowRead r rows = ReadOrFresh (freshTables .escrowRows) (r .whole) (r .table .rows) rows
 
 -- ---- the row that a call adds
 
@@ -76,11 +80,13 @@ calledOf b c =
 -- Whatever rows were read: with the rows added to them, the reply is the entry's result.
 pub record CalledOn (b : BoxRecord) (log : LentLog) (escrow : LentEscrow) (heaps shared logValues escrowValues output bytes : List ℕ)
     (r : Called) (heaps′ shared′ logValues′ escrowValues′ output′ : List ℕ) : Type 0 where
-  pub result : (logRows : List LogRow) (escrowRows : List EscrowRow) → LogRead log logRows → EscrowRead escrow escrowRows
+  pub result : (logRows : List LogRow) (escrowRows : List EscrowRow) → RowsRead (log .whole) (log .table .rows) logRows
+      → RowsRead (escrow .whole) (escrow .table .rows) escrowRows
       → lentResult (r .reply) (withRow (r .log .added) (r .log .at) (r .log .row) logRows)
       (withRow (r .escrow .added) (r .escrow .at) (r .escrow .row) escrowRows) heaps′ shared′ logValues′ escrowValues′ output′
       ≡ entryOn (lentTables b logRows escrowRows heaps shared logValues escrowValues) bytes output
-  pub logFits : (rows : List LogRow) → LogRead log rows → RowFits (r .log .added) (r .log .at) rows
-  pub escrowFits : (rows : List EscrowRow) → EscrowRead escrow rows → RowFits (r .escrow .added) (r .escrow .at) rows
+  pub logFits : (rows : List LogRow) → RowsRead (log .whole) (log .table .rows) rows → RowFits (r .log .added) (r .log .at) rows
+  pub escrowFits : (rows : List EscrowRow) → RowsRead (escrow .whole) (escrow .table .rows) rows
+      → RowFits (r .escrow .added) (r .escrow .at) rows
   pub logRow : AddedBy (logTable .blank) (b .log .rows) (r .reply .held .log .rows) (r .log .added) (r .log .at) (r .log .row)
   pub escrowRow : AddedBy (escrowTable .blank) (b .escrow .rows) (r .reply .held .escrow .rows) (r .escrow .added) (r .escrow .at) (r .escrow .row)

@@ -345,7 +345,7 @@ module _ {M : Type 1} (𝓤 : URA M) (H : Heap 𝓤) (A : Atoms 𝓤) (W : Given
   Settled r ws = Settles r ys₀ ys₁ (Answers (r .reply) (withLogRow (r .log) ys₀) (withEscrowRow (r .escrow) ys₁) ws)
 
   settled : (lr : LentLog) (er : LentEscrow) (r : Called) (ws : Left) → LogRead lr ys₀ → EscrowRead er ys₁ → Said lr er r ws → Settled r ws
-  settled lr er r ws rd rd′ said = record { answers = said .result ys₀ ys₁ rd rd′; logFits = said .logFits ys₀ rd; escrowFits = said .escrowFits ys₁ rd′ }
+  settled lr er r ws rd rd′ said = record { answers = said .result ys₀ ys₁ (rd .read) (rd′ .read); logFits = said .logFits ys₀ (rd .read); escrowFits = said .escrowFits ys₁ (rd′ .read) }
 
   reply-is : (r : Called) → Is D.the-row r (LL.vals D.the-type D′.the-laws r) → Is R.the-row (r .reply) (LL.vals R.the-type R′.the-laws (r .reply))
   reply-is r is = LL.owed D.the-type D′.the-laws r _ is .0
