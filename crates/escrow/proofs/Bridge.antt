@@ -22,10 +22,11 @@ use Rattle.ideal.proofs.Fit.{rows-fit}
 use Rattle.ideal.proofs.More.{row-added, value-added, counts-raised}
 use Rattle.ideal.proofs.HeapBytes.{own-bytes}
 use Rattle.state.specs.Answers.{settled}
-use Rattle.state.proofs.Settled.{answerOf, settledResult, Moves, laid-step}
-use Rattle.escrow.specs.Narrow.{EscrowFits, callerOf, heapByte, escrowOf, EscrowResult, moreEscrow, protectUnless, protectRefusal, protectOn}
+use Rattle.state.proofs.Settled.{answerOf, ShowsNone, settledResult, Moves, laid-step}
+use Rattle.escrow.specs.Narrow.{EscrowFits, callerOf, heapByte, escrowOf, moreEscrow, protectUnless, protectRefusal, protectOn}
 use Rattle.state.specs.Counts.{fullBy, Room}
-use Rattle.state.specs.NewRow.{logRowsWith, escrowRowsWith, RowAdded}
+use Rattle.state.specs.Edits.{EditsBy, Stored, changed}
+use Rattle.state.proofs.Edited.{no-edits, escrow-added}
 use Rattle.state.proofs.Rooms.{has-room}
 
 -- what protect and retrieve require of the escrow, of a sound one
@@ -58,38 +59,42 @@ protects b i o n d r l e =
       room = has-room (b .escrow) n l (failed 13 (fullBy (b .escrow) n) _ e₄);
     }
 
--- ---- a protect adds a row only where one is not used
+-- ---- a protect puts a row only where one is not used
 
-protected-adds : (r : ℕ) (b : BoxRecord) (rows : List EscrowRow) (values : List ℕ) (i j : ℕ) (d : Draw) (v : List ℕ)
+protected-edits : (r : ℕ) (b : BoxRecord) (rows : List EscrowRow) (values : List ℕ) (i j : ℕ) (d : Draw) (v : List ℕ)
     → (r ≡ 0 → b .escrow .rows < 64)
-    → RowAdded b (protectUnless r b rows values i j d v .held) (protectUnless r b rows values i j d v .added)
-unfolding protectUnless settled moreEscrow RowAdded
-protected-adds zero b rows values i j d v h = (refl, refl, h refl)
-protected-adds (suc r) b rows values i j d v h = (refl, refl)
+    → let c = protectUnless r b rows values i j d v .change in EditsBy b (c .held) (c .edits)
+unfolding protectUnless settled moreEscrow
+protected-edits zero b rows values i j d v h = escrow-added b _ refl refl (h refl)
+protected-edits (suc r) b rows values i j d v h = no-edits b b refl refl
 
-pub protect-adds : (b : BoxRecord) (rows : List EscrowRow) (heaps values : List ℕ) (i o n : ℕ) (d : Draw) → b .running ≤ 16
-    → b .escrow .rows ≤ 64 → RowAdded b (protectOn b rows heaps values i o n d .held) (protectOn b rows heaps values i o n d .added)
+pub protect-edits : (b : BoxRecord) (rows : List EscrowRow) (heaps values : List ℕ) (i o n : ℕ) (d : Draw) → b .running ≤ 16
+    → b .escrow .rows ≤ 64 → let c = protectOn b rows heaps values i o n d .change in EditsBy b (c .held) (c .edits)
 unfolding protectOn
-protect-adds b rows heaps values i o n d runs few =
-    protected-adds _ b rows values _ _ _ _ (λ e. protects b i o n d runs few e .room .row)
+protect-edits b rows heaps values i o n d runs few =
+    protected-edits _ b rows values _ _ _ _ (λ e. protects b i o n d runs few e .room .row)
 
--- ---- the host's tables with the row added, and the other parts of the escrow replaced
+-- ---- it uses no byte of a record, and shows none
 
-abbrev pub replaceEscrow : Tables → EscrowResult → Tables
-replaceEscrow t r =
-    record {
-      box = r .held;
-      heaps = t .heaps;
-      shared = t .shared;
-      logRows = logRowsWith (t .box) (r .added) (t .logRows);
-      logValues = t .logValues;
-      escrowRows = escrowRowsWith (t .box) (r .added) (t .escrowRows);
-      escrowValues = r .values;
-    }
+protected-alone : (r : ℕ) (b : BoxRecord) (rows : List EscrowRow) (values : List ℕ) (i j : ℕ) (d : Draw) (v : List ℕ)
+    → ShowsNone (protectUnless r b rows values i j d v .change .answer)
+unfolding protectUnless settled moreEscrow
+protected-alone zero b rows values i j d v = (refl, refl)
+protected-alone (suc r) b rows values i j d v = (refl, refl)
+
+pub protect-alone : (b : BoxRecord) (rows : List EscrowRow) (heaps values : List ℕ) (i o n : ℕ) (d : Draw)
+    → ShowsNone (protectOn b rows heaps values i o n d .change .answer)
+unfolding protectOn
+protect-alone b rows heaps values i o n d = protected-alone _ b rows values _ _ _ _
+
+-- ---- the host's tables with the escrow's parts replaced
+
+abbrev pub replaceEscrow : Tables → Stored → Tables
+replaceEscrow t r = changed t (r .change) (t .heaps) (t .shared) (t .logValues) (r .values)
 
 -- and the whole answer
-abbrev pub onEscrow : Tables → EscrowResult → ℕ → Result
-onEscrow t r used = record { tables = replaceEscrow t r; answer = answerOf (r .answer) used [] }
+abbrev pub onEscrow : Tables → Stored → ℕ → Result
+onEscrow t r used = record { tables = replaceEscrow t r; answer = answerOf (r .change .answer) used [] }
 
 abbrev withMore : Tables → EscrowKey → List ℕ → Tables
 withMore t k v = replaceEscrow t (moreEscrow (t .box) (t .escrowValues) k v)
@@ -97,7 +102,7 @@ withMore t k v = replaceEscrow t (moreEscrow (t .box) (t .escrowValues) k v)
 -- one entry more
 added : (s : State) (x : Escrowed) → Room (usedBy (s .escrow)) (length (x .value))
     → tables (withEscrow s (s .escrow ++ (x ∷ []))) ≡ withMore (tables s) (x .key) (x .value)
-unfolding tables boxRecord withEscrow moreEscrow logRowsWith escrowRowsWith
+unfolding tables boxRecord withEscrow moreEscrow
 added s x room = λ j.
     record {
       box =
@@ -176,7 +181,7 @@ module _ (t : Tables) (k : Valid (stateOf t)) (e : tables (stateOf t) ≡ t) whe
 
     protect-settled : (r used : ℕ) → settledResult r t (withMore t key value) (key .handle .0) [] used
         ≡ onEscrow t (protectUnless r (t .box) (t .escrowRows) (t .escrowValues) (callerOf (t .box)) i d value) used
-    unfolding protectUnless moreEscrow settled logRowsWith escrowRowsWith
+    unfolding protectUnless moreEscrow settled
     protect-settled zero used = refl
     protect-settled (suc r) used = refl
 

@@ -7,9 +7,9 @@ use Rattle.ideal.specs.declared.BoxRecord.{BoxRecord}
 use Rattle.ideal.specs.Step.{Tests, accept, _then_, first}
 use Rattle.ideal.specs.History.{ones}
 use Rattle.state.specs.declared.Answer.{Answer}
-use Rattle.state.specs.declared.Added.the-variants.{Nothing}
-use Rattle.state.specs.declared.BoxAnswer.{BoxAnswer}
-use Rattle.state.specs.Answers.{refusedWith, settled, answered}
+use Rattle.state.specs.declared.Change.{Change}
+use Rattle.state.specs.Answers.{settled, answered}
+use Rattle.state.specs.Edits.{unchanged}
 
 -- ---- the tests
 
@@ -33,14 +33,14 @@ boxWithRunning b p = record { taken = b .taken; running = p; identities = b .ide
 
 -- ---- the calls
 
-abbrev pub settledBox : (refusal : ℕ) → (before after : BoxRecord) → (number : ℕ) → BoxAnswer
+abbrev pub settledBox : (refusal : ℕ) → (before after : BoxRecord) → (number : ℕ) → Change
 settledBox refusal before after number =
-    record { held = settled refusal before after; added = Nothing; answer = answered refusal number }
+    unchanged (settled refusal before after) (answered refusal number)
 
-unfoldable pub startOn : BoxRecord → (place : ℕ) → BoxAnswer
+unfoldable pub startOn : BoxRecord → (place : ℕ) → Change
 startOn b p = settledBox (first (startTests b p)) b (boxWithRunning b p) 0
 
-unfoldable pub yieldOn : BoxRecord → BoxAnswer
+unfoldable pub yieldOn : BoxRecord → Change
 yieldOn b = settledBox (first (runningTests b)) b (boxWithRunning b 16) 0
 
 -- services + 256 times log rows + 65,536 times escrow rows; the services are the standing bits of the map

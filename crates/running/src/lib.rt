@@ -2,13 +2,13 @@
 ghost use mathlib.Core.Path.{_≡_};
 ghost use Rattle.running.specs.Narrow.{startOn, yieldOn, reportOn};
 use ideal::BoxRecord;
-use state::Added;
 use state::Answer;
-use state::BoxAnswer;
+use state::Change;
 use state::accepted;
 use state::refuse;
+use state::unedited;
 
-pub fn start(b: BoxRecord, place: u8) -> BoxAnswer
+pub fn start(b: BoxRecord, place: u8) -> Change
     ensures { λ r. ⌜ r ≡ startOn b place ⌝ }
 {
     if b.running != 16 {
@@ -23,15 +23,11 @@ pub fn start(b: BoxRecord, place: u8) -> BoxAnswer
     }
     let mut next = b;
     next.running = place;
-    BoxAnswer {
-        held: next,
-        added: Added::Nothing,
-        answer: accepted(0),
-    }
+    unedited(next, accepted(0))
 }
 
 // The heap is left as it is.
-pub fn yield_running(b: BoxRecord) -> BoxAnswer
+pub fn yield_running(b: BoxRecord) -> Change
     ensures { λ r. ⌜ r ≡ yieldOn b ⌝ }
 {
     if b.running == 16 {
@@ -39,11 +35,7 @@ pub fn yield_running(b: BoxRecord) -> BoxAnswer
     }
     let mut next = b;
     next.running = 16;
-    BoxAnswer {
-        held: next,
-        added: Added::Nothing,
-        answer: accepted(0),
-    }
+    unedited(next, accepted(0))
 }
 
 pub fn report(b: BoxRecord) -> Answer

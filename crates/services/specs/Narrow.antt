@@ -10,7 +10,7 @@ use Rattle.ideal.specs.declared.BoxRecord.{BoxRecord}
 use Rattle.ideal.specs.State.{cleared}
 use Rattle.ideal.specs.Step.{Tests, accept, _then_, first}
 use Rattle.ideal.specs.Tables.{takenMap}
-use Rattle.state.specs.declared.BoxAnswer.{BoxAnswer}
+use Rattle.state.specs.declared.Change.{Change}
 use Rattle.state.specs.Answers.{settled}
 use Rattle.running.specs.Narrow.{vacantIn, runningTests, boxWithRunning, settledBox}
 
@@ -41,10 +41,10 @@ boxAfterExit b = boxWithRunning (boxWithIdentity b (b .running) 0) 16
 
 -- ---- the calls
 
-unfoldable pub createOn : BoxRecord → (place identity : ℕ) → BoxAnswer
+unfoldable pub createOn : BoxRecord → (place identity : ℕ) → Change
 createOn b p i = settledBox (first (createTests b p i)) b (boxWithIdentity b p i) p
 
-unfoldable pub exitOn : BoxRecord → BoxAnswer
+unfoldable pub exitOn : BoxRecord → Change
 exitOn b = settledBox (first (runningTests b)) b (boxAfterExit b) 0
 
 unfoldable pub exitHeaps : BoxRecord → List ℕ → List ℕ

@@ -5,10 +5,10 @@ ghost use Rattle.ideal.specs.Tables.{takenMap};
 ghost use Rattle.services.specs.Narrow.{Leaving, createOn, exitOn, exitHeaps};
 use buffers::clear;
 use ideal::BoxRecord;
-use state::Added;
-use state::BoxAnswer;
+use state::Change;
 use state::accepted;
 use state::refuse;
+use state::unedited;
 
 // The bit of a place in the map of taken places.
 fn bit_of(place: u8) -> u16
@@ -18,7 +18,7 @@ fn bit_of(place: u8) -> u16
     1u16 << place
 }
 
-pub fn create(b: BoxRecord, place: u8, identity: u64) -> BoxAnswer
+pub fn create(b: BoxRecord, place: u8, identity: u64) -> Change
     requires { ⌜ b .taken ≡ takenMap (b .identities) ⌝ }
     ensures { λ r. ⌜ r ≡ createOn b place identity ⌝ }
 {
@@ -36,15 +36,11 @@ pub fn create(b: BoxRecord, place: u8, identity: u64) -> BoxAnswer
     let mut next = b;
     next.taken = taken;
     next.identities[p] = identity;
-    BoxAnswer {
-        held: next,
-        added: Added::Nothing,
-        answer: accepted(place as u64),
-    }
+    unedited(next, accepted(place as u64))
 }
 
 // The heap is cleared here, not at the next create.
-pub fn exit_running(b: BoxRecord, heaps: &mut [u8]) -> BoxAnswer
+pub fn exit_running(b: BoxRecord, heaps: &mut [u8]) -> Change
     requires { ⌜ Leaving b (now heaps) ⌝ }
     ensures { λ r. ⌜ r ≡ exitOn b ⌝ }
     ensures { λ r. ⌜ now (heaps .exit) ≡ exitHeaps b (now (heaps .entry)) ⌝ }
@@ -62,9 +58,5 @@ pub fn exit_running(b: BoxRecord, heaps: &mut [u8]) -> BoxAnswer
     next.taken = left;
     next.identities[p] = 0;
     next.running = 16;
-    BoxAnswer {
-        held: next,
-        added: Added::Nothing,
-        answer: accepted(0),
-    }
+    unedited(next, accepted(0))
 }

@@ -21,7 +21,7 @@ rangeRefusal limit o n = first (rangeTests limit o n)
 
 -- n bytes are shown
 abbrev pub showing : ℕ → Answer
-showing n = record { code = 0; number = n; shown = n }
+showing n = record { code = 0; number = n; used = 0; shown = n }
 
 -- the answer of a call that shows n bytes, unless it is refused
 unfoldable pub showed : (refusal n : ℕ) → Answer

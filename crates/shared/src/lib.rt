@@ -33,6 +33,7 @@ pub fn show(memory: &[u8], output: &mut [u8], start: usize, size: u16) -> Answer
     Answer {
         code: 0,
         number: size as u64,
+        used: 0,
         shown: size,
     }
 }

@@ -1,3 +1,3 @@
-pub mod NoRow
+pub mod Edited
 pub mod Rooms
 pub mod Settled

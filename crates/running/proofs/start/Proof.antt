@@ -39,10 +39,13 @@ returns-3 c =
 accepted-requires : tie.Need-accepted-requires
 accepted-requires c κs = search needs
 
+unedited-requires : tie.Need-unedited-requires
+unedited-requires c κs = search needs
+
 returns-4 : tie.Need-returns-4
 unfolding startOn first settled answered
 returns-4 c =
-    rw (c .accepted .ensures, eq-eqb _ _ (c .before .before .before .before .if1 .left), le-ltb _ _ (c .before .before .before .if2 .left), ne-eqb _ _ (c .before .if3 .left))
+    rw (c .unedited .ensures, c .before .accepted .ensures, eq-eqb _ _ (c .before .before .before .before .before .if1 .left), le-ltb _ _ (c .before .before .before .before .if2 .left), ne-eqb _ _ (c .before .before .if3 .left))
 
 pub start-spec : {M : Type 1} → statement M
 start-spec =
@@ -57,4 +60,5 @@ start-spec =
     refuse-requires-3
     returns-3
     accepted-requires
+    unedited-requires
     returns-4)

@@ -17,10 +17,13 @@ returns c =
 accepted-requires : tie.Need-accepted-requires
 accepted-requires c κs = search needs
 
+unedited-requires : tie.Need-unedited-requires
+unedited-requires c κs = search needs
+
 returns-2 : tie.Need-returns-2
 unfolding yieldOn first settled answered
 returns-2 c =
-    rw (c .accepted .ensures, ne-eqb _ _ (c .before .if1 .left))
+    rw (c .unedited .ensures, c .before .accepted .ensures, ne-eqb _ _ (c .before .before .if1 .left))
 
 pub yield-running-spec : {M : Type 1} → statement M
-yield-running-spec = tie.close (tie.spec refuse-requires returns accepted-requires returns-2)
+yield-running-spec = tie.close (tie.spec refuse-requires returns accepted-requires unedited-requires returns-2)

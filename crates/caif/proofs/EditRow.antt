@@ -1,4 +1,4 @@
--- The new row, if there is one, is put into a lent slice: a walk by hand of the MIR, for every kind of row. In one arm of the branch the slice is lent again
+-- A row, if there is one, is put into a lent slice: a walk by hand of the MIR, for every kind of row. In one arm of the branch the slice is lent again
 -- for the call of the function that puts a row, and comes back (`Again.antt` of `rows`); the other arm leaves it. Both go on to the end by themselves.
 -- Assumes nothing.
 use mathlib.Core.Path.{_≡_, refl, _∙_}
@@ -41,15 +41,16 @@ use Rattle.rows.proofs.Again.{LentAgain, lends-again, comes-back}
 use Rattle.rows.proofs.Says.{Ensures, asking, saying, Tells, says-so}
 use Rattle.rows.proofs.Kind.{Kind, R, byVal, ref, val, vals, tells, bound, silent, makes, lawful}
 use Rattle.rows.proofs.PutRow as PR
-use Rattle.caif.specs.Copied.{withRow, RowFits}
+use Rattle.state.specs.Edits.{edited}
+use Rattle.caif.specs.Counted.{RowFits}
 use Rattle.caif.proofs.Arms.{is-true, is-false}
 
 -- ---- what is written, by how the test came out
-added-yes : {Row : Type 0} (y : Bool) (ys : List Row) (i : ℕ) (r : Row) → T y → set ys i r ≡ withRow y i r ys
-added-yes y ys i r t = rw (is-true y t)
+put-yes : {Row : Type 0} (y : Bool) (ys : List Row) (i : ℕ) (r : Row) → T y → set ys i r ≡ edited y i r ys
+put-yes y ys i r t = rw (is-true y t)
 
-added-no : {Row : Type 0} (y : Bool) (ys : List Row) (i : ℕ) (r : Row) → T (not y) → ys ≡ withRow y i r ys
-added-no y ys i r t = rw (is-false y t)
+put-no : {Row : Type 0} (y : Bool) (ys : List Row) (i : ℕ) (r : Row) → T (not y) → ys ≡ edited y i r ys
+put-no y ys i r t = rw (is-false y t)
 
 module _ (k : Kind) (#put : Name) where
   abbrev Row : Type 0
@@ -72,7 +73,7 @@ module _ (k : Kind) (#put : Name) where
   Asks 𝓤 κs a = fact 𝓤 (RowFits (a .1 .0) (a .1 .1 .0) (now (a .0)))
 
   abbrev Says : (κs : Lfts 1) → Args signature κs → Res signature κs → AtExit ended κs → Type 0
-  Says κs a r e = now (e .0) ≡ withRow (a .1 .0) (a .1 .1 .0) (a .1 .1 .1 .0) (now (a .0))
+  Says κs a r e = now (e .0) ≡ edited (a .1 .0) (a .1 .1 .0) (a .1 .1 .1 .0) (now (a .0))
 
   abbrev clauses : {M : Type 1} (𝓤 : URA M) → Clauses 𝓤 ended
   clauses 𝓤 = saying 𝓤 ended (Asks 𝓤) Says
@@ -148,7 +149,7 @@ module _ (k : Kind) (#put : Name) where
     Own l = MutSlice (named 0) κ (R k) .own (x γ l) (s ∷ [])
 
     -- at exit: the slice at zs, with the token
-    exits : (zs : List Row) → length zs ≡ length ys → zs ≡ withRow y i r ys → ent 𝓤 (⋆ 𝓤 H A (‵ (Own zs) ∷ ‵ (flft κ q) ∷ [])) (Post vunit)
+    exits : (zs : List Row) → length zs ≡ length ys → zs ≡ edited y i r ys → ent 𝓤 (⋆ 𝓤 H A (‵ (Own zs) ∷ ‵ (flft κ q) ∷ [])) (Post vunit)
     exits zs len ez =
         qed W (‵ (Own zs) ∷ ‵ (flft κ q) ∷ []) ∵
         suffices ! _ (ends-at 𝓤 H A ended stayed (clauses 𝓤) W (((κ, tt), (q, tt), tt, a, avals), tt) vunit tt (zs, (tt, (tt, (bound k r, tt)))) (len, (tt, (tt, (tt, tt))))) $
@@ -190,7 +191,7 @@ module _ (k : Kind) (#put : Name) where
         At zs = ‵ (Own zs) ∷ ‵ (flft κ q) ∷ free (sliceTy (ptrTo erased)) l₈ (free (ptrTo erased) l₇ (free tyUnit l₆ (free tyBool l₅ Params)))
 
         -- what follows the branch
-        tail : (zs : List Row) → length zs ≡ length ys → zs ≡ withRow y i r ys → Sq W (At zs) (runs C Λ En t-3 (atRet En Post))
+        tail : (zs : List Row) → length zs ≡ length ys → zs ≡ edited y i r ys → Sq W (At zs) (runs C Λ En t-3 (atRet En Post))
         tail zs len ez =
             assigns ! (of-opd ! (unit-lit !)) (from ! (stop !)) (init ! 18 refl (tt, tt)) $
             returns ! (look ! 18 refl) $ forget ! 10 refl $ forget ! 12 refl $ forget ! 14 refl $ forget ! 16 refl $ forget ! 18 refl $
@@ -230,9 +231,9 @@ module _ (k : Kind) (#put : Name) where
             -- [what rows owns; the token; …; …; _8 at 4; _7 at 6; _6 at 8; _5 at 10; … _0 at 20]
             forget ! 4 refl $ forget ! 6 refl $ forget ! 8 refl $ forget ! 10 refl $
             keep ! (0 ∷ 1 ∷ 4 ∷ 5 ∷ 6 ∷ 7 ∷ 8 ∷ 9 ∷ 10 ∷ 11 ∷ 12 ∷ 13 ∷ 14 ∷ 15 ∷ 16 ∷ 17 ∷ 18 ∷ 19 ∷ 20 ∷ 21 ∷ []) $
-            tail (zs .0) len (ez ∙ added-yes y ys i r held)))))))))
+            tail (zs .0) len (ez ∙ put-yes y ys i r held)))))))))
             )
-            (λ failed. skips ! $ exec ! C Λ En t-3 (atRet En Post) $ forget ! 8 refl $ tail ys refl (added-no y ys i r failed))
+            (λ failed. skips ! $ exec ! C Λ En t-3 (atRet En Post) $ forget ! 8 refl $ tail ys refl (put-no y ys i r failed))
 
       walk : ent 𝓤 (onEntry 𝓤 H A signature (κ, tt) (q, tt) a avals) (WpFn 𝓤 H C Λ function (s ∷ vbool y ∷ vint w64 i ∷ val k r ∷ []) Post)
       walk =
@@ -265,6 +266,6 @@ module _ (k : Kind) (#put : Name) where
         (clauses 𝓤) (WpFn 𝓤 H (𝓣 .C) (𝓣 .Λ) function) (WpFn-mono 𝓤 H (W .laws) 𝓣 function) (walks (𝓣 .C) (𝓣 .Λ) (fmOf 𝓤 H (W .laws) 𝓣) known)
 
     -- at the `ensures` E of a function
-    pub add-row-meets : (E : Ensures 𝓤 ended (Asks 𝓤)) → Tells 𝓤 ended (Asks 𝓤) Says E → (𝓣 : Tables 𝓤 H) → Triple 𝓤 (𝓣 .C #put) (PutRow 𝓤 H A)
+    pub edit-row-meets : (E : Ensures 𝓤 ended (Asks 𝓤)) → Tells 𝓤 ended (Asks 𝓤) Says E → (𝓣 : Tables 𝓤 H) → Triple 𝓤 (𝓣 .C #put) (PutRow 𝓤 H A)
         → Meets 𝓤 H A signature (WpFn 𝓤 H (𝓣 .C) (𝓣 .Λ) function) (closing 𝓤 H A ended (asking 𝓤 ended (Asks 𝓤) E))
-    add-row-meets E h 𝓣 known = says-so 𝓤 ended (Asks 𝓤) Says H A W E h (WpFn 𝓤 H (𝓣 .C) (𝓣 .Λ) function) (WpFn-mono 𝓤 H (W .laws) 𝓣 function) (meets-it 𝓣 known)
+    edit-row-meets E h 𝓣 known = says-so 𝓤 ended (Asks 𝓤) Says H A W E h (WpFn 𝓤 H (𝓣 .C) (𝓣 .Λ) function) (WpFn-mono 𝓤 H (W .laws) 𝓣 function) (meets-it 𝓣 known)
