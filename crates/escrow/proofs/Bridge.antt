@@ -10,36 +10,26 @@ use Rattle.record.specs.declared.Draw.{Draw}
 use Rattle.record.specs.Call.{protect}
 use Rattle.ideal.specs.declared.BoxRecord.{BoxRecord}
 use Rattle.ideal.specs.declared.EscrowRow.{EscrowRow}
-use Rattle.ideal.specs.declared.Used.{Used}
 use Rattle.ideal.specs.State.{State, EscrowKey, Escrowed, part, ownPart, heapAt}
 use Rattle.ideal.specs.Step.{freeHandle, full, _then_, accept, first, idle, beyond, tests, refusal, withEscrow, protected, effect, number, shown, step}
-use Rattle.ideal.specs.Tables.{Tables, escrowTable, usedBy, boxRecord, tables, stateOf}
+use Rattle.ideal.specs.Tables.{Tables, usedBy, boxRecord, tables, stateOf}
 use Rattle.ideal.specs.Box.{Result, laid}
 use Rattle.ideal.proofs.Chain.{failed, passed}
 use Rattle.ideal.specs.Valid.{Valid}
-use Rattle.ideal.proofs.Table.{part-length, Stands, escrow-lawful}
-use Rattle.ideal.proofs.Fit.{rows-fit}
+use Rattle.ideal.proofs.Table.{part-length, escrow-lawful}
 use Rattle.ideal.proofs.More.{row-added, value-added, counts-raised}
 use Rattle.ideal.proofs.HeapBytes.{own-bytes}
 use Rattle.state.specs.Answers.{settled}
 use Rattle.state.proofs.Settled.{answerOf, ShowsNone, settledResult, Moves, laid-step}
-use Rattle.escrow.specs.Narrow.{EscrowFits, callerOf, heapByte, escrowOf, moreEscrow, protectUnless, protectRefusal, protectOn}
+use Rattle.escrow.specs.Narrow.{moreEscrow, protectUnless, protectRefusal, protectOn}
 use Rattle.state.specs.Counts.{fullBy, Room}
+use Rattle.state.specs.Parts.{callerOf, heapByte, escrowOf}
 use Rattle.state.specs.Edits.{EditsBy, Stored, changed}
 use Rattle.state.proofs.Edited.{no-edits, escrow-added}
+use Rattle.state.proofs.Parts.{HeapFits}
 use Rattle.state.proofs.Rooms.{has-room}
 
--- what protect and retrieve require of the escrow, of a sound one
-pub escrow-fits : {rows : List EscrowRow} {values : List ℕ} {used : Used} → Stands escrowTable rows values used
-    → EscrowFits used rows values
-escrow-fits {rows} {values} {used} s =
-    record { few = s .few; size = s .value-count; fit = rows-fit escrowTable rows values used s }
-
 -- ---- what an accepted call passed
-
-pub record HeapFits (running offset size : ℕ) : Type 0 where
-  pub runs : running < 16
-  pub within : offset + size ≤ 256
 
 record Protects (b : BoxRecord) (offset size : ℕ) : Type 0 where
   heap : HeapFits (b .running) offset size

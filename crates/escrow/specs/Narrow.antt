@@ -1,46 +1,21 @@
 -- What protect leaves and answers, on the parts of the box that it is given.
-use Prim.Native.Nat.{ℕ, _+_, _*_, _^_, _≤_}
-use mathlib.Core.Path.{_≡_}
+use Prim.Native.Nat.{ℕ, _+_, _^_}
 use mathlib.Core.Bool.{true}
 use mathlib.Core.List.{List}
-use lib.ListN.{length, getD, take}
+use lib.ListN.{length}
 use lib.Seq.{sets}
 use lib.Dec.{eqb, leb}
 use Rattle.record.specs.declared.Draw.{Draw}
 use Rattle.ideal.specs.declared.BoxRecord.{BoxRecord}
 use Rattle.ideal.specs.declared.EscrowRow.{EscrowRow}
-use Rattle.ideal.specs.declared.Used.{Used}
-use Rattle.ideal.specs.State.{EscrowKey, Escrowed, part}
+use Rattle.ideal.specs.State.{EscrowKey, part}
 use Rattle.ideal.specs.Step.{freeHandle, accept, _then_, first, beyond}
-use Rattle.ideal.specs.Tables.{escrowTable, entriesOf}
-use Rattle.ideal.specs.Fit.{RowsFit}
+use Rattle.ideal.specs.Tables.{escrowTable}
 use Rattle.state.specs.Counts.{fullBy}
+use Rattle.state.specs.Parts.{callerOf, heapByte, escrowOf}
 use Rattle.state.specs.Answers.{refusedWith, acceptedWith, settled}
 use Rattle.state.specs.Edits.{noLogEdit, Stored, kept, raised}
 
--- ---- what callers of protect and of retrieve show
-
--- the used rows are rows of the table, and lie within its value bytes
-pub record EscrowFits (used : Used) (rows : List EscrowRow) (values : List ℕ) : Type 0 where
-  pub few : used .rows ≤ 64
-  pub size : length values ≡ 4096
-  pub fit : RowsFit escrowTable rows (used .rows) (length values)
-
--- ---- parts of the box
-
--- the identity of the program that runs
-abbrev pub callerOf : BoxRecord → ℕ
-callerOf b = getD (b .identities) (b .running) 0
-
--- place p has the 256 bytes from 256 times p
-abbrev pub heapByte : BoxRecord → ℕ → ℕ
-heapByte b o = 256 * b .running + o
-
--- the escrow that the used rows stand for
-abbrev pub escrowOf : BoxRecord → List EscrowRow → List ℕ → List Escrowed
-escrowOf b rows values = entriesOf escrowTable values (take (b .escrow .rows) rows)
-
--- ---- protect
 
 -- one row and its value more
 unfoldable pub moreEscrow : BoxRecord → List ℕ → EscrowKey → List ℕ → Stored

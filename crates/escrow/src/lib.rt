@@ -2,9 +2,11 @@
 ghost use mathlib.Core.Path.{_≡_};
 ghost use Prim.Native.Nat.{_≤_};
 ghost use lib.ListN.{length};
+ghost use Rattle.ideal.specs.Tables.{escrowTable};
 ghost use Rattle.state.specs.Counts.{Room};
 ghost use Rattle.state.specs.Edits.{stored};
-ghost use Rattle.escrow.specs.Narrow.{EscrowFits, moreEscrow, protectValue, protectOn};
+ghost use Rattle.state.specs.Parts.{TableFits};
+ghost use Rattle.escrow.specs.Narrow.{moreEscrow, protectValue, protectOn};
 use buffers::put;
 use handles::free_handle;
 use ideal::BoxRecord;
@@ -101,7 +103,7 @@ pub fn protect(
     size: u16,
     draw: Draw,
 ) -> Change
-    requires { ⌜ (b .running ≤ 16) × (length (now heaps) ≡ 4096) × EscrowFits (b .escrow) (escrow .rows) (now values) ⌝ }
+    requires { ⌜ (b .running ≤ 16) × (length (now heaps) ≡ 4096) × TableFits escrowTable (b .escrow) (escrow .rows) (now values) ⌝ }
     ensures { λ r. ⌜ stored r (now (values .exit)) ≡ protectOn b (escrow .rows) (now (heaps .entry)) (now (values .entry)) recipient offset size draw ⌝ }
 {
     if b.running == 16 {

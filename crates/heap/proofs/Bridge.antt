@@ -13,9 +13,10 @@ use Rattle.ideal.specs.Box.{laid}
 use Rattle.ideal.specs.Valid.{Valid}
 use Rattle.ideal.proofs.HeapBytes.{replaceHeaps, own-bytes, written-bytes}
 use Rattle.ideal.proofs.Table.{part-length}
+use Rattle.state.specs.Parts.{heapByte}
 use Rattle.state.proofs.Settled.{answerOf, part-settled, Moves, laid-step}
 use Rattle.shared.proofs.Bridge.{Shows, shows}
-use Rattle.heap.specs.Narrow.{heapByte, heapRefusal, heapWriteAnswer, heapWriteHeaps, heapReadAnswer, heapReadOutput}
+use Rattle.heap.specs.Narrow.{heapRefusal, heapWriteAnswer, heapWriteHeaps, heapReadAnswer, heapReadOutput}
 use Rattle.heap.proofs.Ranges.{heap-fits}
 
 module _ (t : Tables) (k : Valid (stateOf t)) (e : tables (stateOf t) ≡ t) where

@@ -1,18 +1,15 @@
 -- What a call that is not refused writes or shows lies in the running place's heap. Assumes nothing.
-use Prim.Native.Nat.{ℕ, _+_, _≤_, _<_}
+use Prim.Native.Nat.{ℕ}
 use mathlib.Core.Path.{_≡_}
 use mathlib.Core.Bool.{not}
 use native.Mathlib.Omega.{arith}
 use lib.Dec.{eqb, ltb}
 use borrow.Author.Tests.{ltb-false, eqb-true, not-false}
 use Rattle.ideal.proofs.Chain.{failed, passed}
+use Rattle.state.proofs.Parts.{HeapFits}
 use Rattle.shared.specs.Narrow.{rangeRefusal}
 use Rattle.shared.proofs.Ranges.{range-fits}
 use Rattle.heap.specs.Narrow.{heapRefusal}
-
-pub record HeapFits (running offset size : ℕ) : Type 0 where
-  pub runs : running < 16
-  pub within : offset + size ≤ 256
 
 pub heap-fits : (r p o n : ℕ) → heapRefusal r p o n ≡ 0 → HeapFits r o n
 unfolding heapRefusal rangeRefusal

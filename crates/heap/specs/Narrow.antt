@@ -1,5 +1,5 @@
 -- What heap write and heap read answer and leave, on the parts of the box that they are given.
-use Prim.Native.Nat.{ℕ, _+_, _*_}
+use Prim.Native.Nat.{ℕ}
 use mathlib.Core.Bool.{not}
 use mathlib.Core.List.{List}
 use lib.ListN.{length}
@@ -9,6 +9,7 @@ use Rattle.ideal.specs.declared.BoxRecord.{BoxRecord}
 use Rattle.ideal.specs.Step.{Tests, _then_, first}
 use Rattle.state.specs.declared.Answer.{Answer}
 use Rattle.state.specs.Answers.{settled, answered}
+use Rattle.state.specs.Parts.{heapByte}
 use Rattle.shared.specs.Narrow.{rangeTests, showed, fronted}
 
 -- ---- refusals: the tests of the box, on numbers
@@ -19,10 +20,7 @@ heapTests r p o n = (4, eqb r 16) then (6, ltb 15 p) then (8, not (eqb p r)) the
 unfoldable pub heapRefusal : (running place offset size : ℕ) → ℕ
 heapRefusal r p o n = first (heapTests r p o n)
 
--- ---- heaps: the running place has the 256 bytes from 256 times it
-
-abbrev pub heapByte : BoxRecord → ℕ → ℕ
-heapByte b o = 256 * b .running + o
+-- ---- the running place's heap
 
 unfoldable pub heapWriteAnswer : BoxRecord → (place offset : ℕ) → List ℕ → Answer
 heapWriteAnswer b p o v = answered (heapRefusal (b .running) p o (length v)) (length v)

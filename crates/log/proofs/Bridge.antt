@@ -12,7 +12,6 @@ use Rattle.fnv.specs.Fnv.{tagOf}
 use Rattle.record.specs.Call.{Call, attest, check}
 use Rattle.ideal.specs.declared.BoxRecord.{BoxRecord}
 use Rattle.ideal.specs.declared.LogRow.{LogRow}
-use Rattle.ideal.specs.declared.Used.{Used}
 use Rattle.ideal.specs.State.{Logged, State, caller, part, ownPart, every}
 use Rattle.ideal.specs.Step.{paired, logged, full, withPair, withLog, first, idle, beyond, tests, refusal, effect, number, shown, refusedAnswer, refuse, accepted, settle, step}
 use Rattle.ideal.specs.Tables.{Tables, logTable, rowsFrom, flat, usedBy, boxRecord, tables, stateOf}
@@ -22,24 +21,19 @@ use Rattle.ideal.proofs.Bools.{by-cases, and-right, and-other, not-is}
 use Rattle.ideal.specs.Valid.{Valid}
 use Rattle.ideal.proofs.Chain.{failed, passed}
 use Rattle.ideal.proofs.Kept.{own-size, busy}
-use Rattle.ideal.proofs.Table.{Stands, entries-back, log-lawful}
+use Rattle.ideal.proofs.Table.{entries-back, log-lawful}
 use Rattle.ideal.proofs.Facts.{log-tests}
-use Rattle.ideal.proofs.Fit.{rows-fit}
 use Rattle.ideal.proofs.More.{row-added, value-added, counts-raised}
 use Rattle.ideal.proofs.Memory.{flat-part}
 use Rattle.state.specs.Answers.{settled, answered}
 use Rattle.state.proofs.Settled.{answerOf, ShowsNone}
-use Rattle.log.specs.Narrow.{LogFits, logOf, moreLog, attested, attestOn, checkOn}
+use Rattle.log.specs.Narrow.{moreLog, attested, attestOn, checkOn}
 use Rattle.state.specs.Counts.{Room, fullBy}
+use Rattle.state.specs.Parts.{logOf}
 use Rattle.state.specs.Edits.{EditsBy, Stored, changed}
 use Rattle.state.proofs.Edited.{no-edits, log-added}
 use Rattle.state.proofs.Rooms.{has-room}
 use Rattle.pairs.proofs.Pairs.{paired-logged}
-
--- what attest and check require of the log, of a sound one
-pub log-fits : {rows : List LogRow} {values : List ℕ} {used : Used} → Stands logTable rows values used → LogFits used rows values
-log-fits {rows} {values} {used} s =
-    record { few = s .few; size = s .value-count; fit = rows-fit logTable rows values used s }
 
 -- the host's tables with the log's parts replaced, and the whole answer
 abbrev pub onLog : Tables → Stored → ℕ → Result

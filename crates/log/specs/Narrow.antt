@@ -1,38 +1,25 @@
 -- What attest and check leave and answer, on the parts of the box that they are given.
-use Prim.Native.Nat.{ℕ, _+_, _*_, _≤_}
-use mathlib.Core.Path.{_≡_}
+use Prim.Native.Nat.{ℕ, _+_}
 use mathlib.Core.Bool.{true, not, _&&_, cond}
 use mathlib.Core.List.{List}
-use lib.ListN.{length, getD, take}
+use lib.ListN.{length}
 use lib.Seq.{sets}
 use lib.Dec.{eqb}
 use Rattle.fnv.specs.declared.Tag.{Tag}
 use Rattle.fnv.specs.Fnv.{tagOf}
 use Rattle.ideal.specs.declared.BoxRecord.{BoxRecord}
 use Rattle.ideal.specs.declared.LogRow.{LogRow}
-use Rattle.ideal.specs.declared.Used.{Used}
-use Rattle.ideal.specs.State.{LogKey, Logged, part}
+use Rattle.ideal.specs.State.{LogKey, part}
 use Rattle.ideal.specs.Step.{logged, accept, _then_, first, beyond}
-use Rattle.ideal.specs.Tables.{logTable, entriesOf}
-use Rattle.ideal.specs.Fit.{RowsFit}
+use Rattle.ideal.specs.Tables.{logTable}
 use Rattle.state.specs.declared.Answer.{Answer}
 use Rattle.state.specs.Counts.{fullBy}
+use Rattle.state.specs.Parts.{callerOf, heapByte, logOf}
 use Rattle.state.specs.Answers.{refusedWith, acceptedWith, settled, answered}
 use Rattle.state.specs.Edits.{noEscrowEdit, Stored, kept, raised}
 
--- ---- what callers show
-
--- the used rows are rows of the table, and lie within its value bytes
-pub record LogFits (used : Used) (rows : List LogRow) (values : List ℕ) : Type 0 where
-  pub few : used .rows ≤ 64
-  pub size : length values ≡ 4096
-  pub fit : RowsFit logTable rows (used .rows) (length values)
-
 -- ---- what is left and answered
 
--- the log that the used rows stand for
-abbrev pub logOf : BoxRecord → List LogRow → List ℕ → List Logged
-logOf b rows values = entriesOf logTable values (take (b .log .rows) rows)
 
 -- ---- attest
 
@@ -75,8 +62,8 @@ attestValue b rows values i g v =
 
 unfoldable pub attestOn : BoxRecord → (rows : List LogRow) → (heaps values : List ℕ) → (offset size : ℕ) → Stored
 attestOn b rows heaps values o n =
-    let i = getD (b .identities) (b .running) 0 in
-    let v = part heaps (256 * b .running + o) n in
+    let i = callerOf b in
+    let v = part heaps (heapByte b o) n in
     let g = tagOf i v in
     let refusal =
     first

@@ -2,9 +2,11 @@
 ghost use mathlib.Core.Path.{_≡_};
 ghost use Prim.Native.Nat.{_≤_};
 ghost use lib.ListN.{length};
+ghost use Rattle.ideal.specs.Tables.{logTable};
 ghost use Rattle.state.specs.Counts.{Room};
 ghost use Rattle.state.specs.Edits.{stored};
-ghost use Rattle.log.specs.Narrow.{LogFits, moreLog, attestValue, attestOn, checkOn};
+ghost use Rattle.state.specs.Parts.{TableFits};
+ghost use Rattle.log.specs.Narrow.{moreLog, attestValue, attestOn, checkOn};
 use buffers::put;
 use fnv::Tag;
 use fnv::tag_of;
@@ -69,7 +71,7 @@ fn attest_value(
     tag: Tag,
     value: &[u8],
 ) -> Change
-    requires { ⌜ LogFits (b .log) (log .rows) (now values) × (length (now value) ≤ 256) ⌝ }
+    requires { ⌜ TableFits logTable (b .log) (log .rows) (now values) × (length (now value) ≤ 256) ⌝ }
     ensures { λ r. ⌜ stored r (now (values .exit)) ≡ attestValue b (log .rows) (now (values .entry)) identity tag (now (value .entry)) ⌝ }
 {
     let used = b.log;
@@ -92,7 +94,7 @@ pub fn attest(
     offset: u16,
     size: u16,
 ) -> Change
-    requires { ⌜ (b .running ≤ 16) × (length (now heaps) ≡ 4096) × LogFits (b .log) (log .rows) (now values) ⌝ }
+    requires { ⌜ (b .running ≤ 16) × (length (now heaps) ≡ 4096) × TableFits logTable (b .log) (log .rows) (now values) ⌝ }
     ensures { λ r. ⌜ stored r (now (values .exit)) ≡ attestOn b (log .rows) (now (heaps .entry)) (now (values .entry)) offset size ⌝ }
 {
     if b.running == 16 {
@@ -119,7 +121,7 @@ pub fn check_pair(
     tag: Tag,
     value: &[u8],
 ) -> Answer
-    requires { ⌜ LogFits (b .log) (log .rows) (now values) ⌝ }
+    requires { ⌜ TableFits logTable (b .log) (log .rows) (now values) ⌝ }
     ensures { λ r. ⌜ r ≡ checkOn b (log .rows) (now (values .entry)) identity tag (now (value .entry)) ⌝ }
 {
     if identity == 0 {

@@ -15,9 +15,9 @@ use Rattle.ideal.specs.Box.{laid}
 use Rattle.ideal.proofs.Chain.{failed, passed}
 use Rattle.ideal.specs.Valid.{Valid}
 use Rattle.ideal.proofs.HeapBytes.{replaceHeaps, written-bytes}
+use Rattle.state.specs.Parts.{heapByte}
+use Rattle.state.proofs.Parts.{HeapFits}
 use Rattle.state.proofs.Settled.{answerOf, part-settled, Moves, laid-step}
-use Rattle.escrow.specs.Narrow.{heapByte}
-use Rattle.escrow.proofs.Bridge.{HeapFits}
 use Rattle.retrieval.specs.Narrow.{foundOn, retrieveRefusal, retrieveAnswer, retrieveHeaps}
 
 module _ (t : Tables) (k : Valid (stateOf t)) (e : tables (stateOf t) ≡ t) where

@@ -1,3 +1,4 @@
 pub mod Edited
 pub mod Rooms
 pub mod Settled
+pub mod Parts
