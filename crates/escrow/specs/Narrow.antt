@@ -16,7 +16,6 @@ use Rattle.state.specs.Parts.{callerOf, heapByte, escrowOf}
 use Rattle.state.specs.Answers.{refusedWith, acceptedWith, settled}
 use Rattle.state.specs.Edits.{noLogEdit, Stored, kept, raised}
 
-
 -- one row and its value more
 unfoldable pub moreEscrow : BoxRecord → List ℕ → EscrowKey → List ℕ → Stored
 moreEscrow b values k v =

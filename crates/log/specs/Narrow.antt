@@ -20,7 +20,6 @@ use Rattle.state.specs.Edits.{noEscrowEdit, Stored, kept, raised}
 
 -- ---- what is left and answered
 
-
 -- ---- attest
 
 -- one row and its value more
