@@ -15,14 +15,15 @@ use Rattle.ideal.proofs.HeapBytes.{replaceHeaps, replaceShared}
 use Rattle.ideal.proofs.Laid.{valid-sound, tables-state}
 use Rattle.state.specs.declared.Answer.{Answer}
 use Rattle.state.specs.declared.Change.{Change}
-use Rattle.state.specs.Answers.{settled}
+use Rattle.state.specs.Answers.{settled, showed}
 use Rattle.state.proofs.Settled.{answerOf, ShowsNone, answered-alone}
+use Rattle.state.proofs.Showing.{Shows}
 use Rattle.running.specs.Narrow.{startOn, yieldOn, reportOn}
 use Rattle.running.proofs.Bridge.{replacePlaces, start-step, yield-step, report-step}
 use Rattle.services.specs.Narrow.{createOn, exitOn, exitHeaps}
 use Rattle.services.proofs.Bridge.{create-step, exit-step}
-use Rattle.shared.specs.Narrow.{showed, sharedWriteAnswer, sharedWriteShared, sharedReadAnswer, sharedReadOutput}
-use Rattle.shared.proofs.Bridge.{Shows, shared-write-step, shared-read-step}
+use Rattle.shared.specs.Narrow.{sharedWriteAnswer, sharedWriteShared, sharedReadAnswer, sharedReadOutput}
+use Rattle.shared.proofs.Bridge.{shared-write-step, shared-read-step}
 use Rattle.heap.specs.Narrow.{heapWriteAnswer, heapWriteHeaps, heapReadAnswer, heapReadOutput}
 use Rattle.heap.proofs.Bridge.{heap-write-step, heap-read-step}
 use Rattle.log.specs.Narrow.{attestOn, checkOn}

@@ -1,5 +1,5 @@
 -- What the calls on heaps do to the tables of a valid state is the step of that state, laid out. Assumes nothing.
-use Prim.Native.Nat.{ℕ, _+_}
+use Prim.Native.Nat.{ℕ}
 use mathlib.Core.Path.{_≡_, refl, sym, ap, _∙_}
 use mathlib.Core.List.{List, []}
 use native.Mathlib.Omega.{arith}
@@ -15,7 +15,7 @@ use Rattle.ideal.proofs.HeapBytes.{replaceHeaps, own-bytes, written-bytes}
 use Rattle.ideal.proofs.Table.{part-length}
 use Rattle.state.specs.Parts.{heapByte}
 use Rattle.state.proofs.Settled.{answerOf, part-settled, Moves, laid-step}
-use Rattle.shared.proofs.Bridge.{Shows, shows}
+use Rattle.state.proofs.Showing.{Shows, shows}
 use Rattle.heap.specs.Narrow.{heapRefusal, heapWriteAnswer, heapWriteHeaps, heapReadAnswer, heapReadOutput}
 use Rattle.heap.proofs.Ranges.{heap-fits}
 

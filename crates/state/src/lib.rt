@@ -13,7 +13,7 @@ pub use fresh::fresh_log;
 pub use fresh::fresh_record;
 pub use full::is_full;
 ghost use mathlib.Core.Path.{_≡_};
-ghost use Rattle.state.specs.Answers.{refusedWith, acceptedWith};
+ghost use Rattle.state.specs.Answers.{refusedWith, acceptedWith, shownWith};
 ghost use Rattle.state.specs.Edits.{unchanged};
 use ideal::BoxRecord;
 use ideal::EscrowRow;
@@ -83,6 +83,15 @@ pub fn accepted(number: u64) -> Answer
         used: 0,
         shown: 0,
     }
+}
+
+// Of a call that shows size bytes.
+pub fn shown(size: u16) -> Answer
+    ensures { λ r. ⌜ r ≡ shownWith size ⌝ }
+{
+    let mut answer = accepted(size as u64);
+    answer.shown = size;
+    answer
 }
 
 // A refusal leaves the box record, and puts no row.

@@ -1,12 +1,10 @@
-use Prim.Native.Nat.{_-_}
-use mathlib.Core.Path.{refl}
 use native.Mathlib.Omega.{arith}
 use native.Mathlib.Nat.{add-sub-cancel-left}
 use lib.Seq.{length-take-le}
 use lib.ListN.{drop, length-drop}
 use borrow.Author.Needs.{needs}
-use Rattle.shared.proofs.show.Statement.{statement}
-use Rattle.shared.proofs.show.Tie as tie
+use Rattle.buffers.proofs.show.Statement.{statement}
+use Rattle.buffers.proofs.show.Tie as tie
 
 add-end : tie.Need-add-end
 add-end c = search needs
@@ -30,7 +28,7 @@ returns : tie.Need-returns
 returns c =
     let x = c .before .before .before .before .before .before .before .args in
     let l = length-take-le (x .size) (drop (x .start) (x .memory .now)) (simp length-drop (omega arith)) in
-    (refl, rw (add-sub-cancel-left, l) at (c .before .before .copy .ensures))
+    rw (add-sub-cancel-left, l) at (c .before .before .copy .ensures)
 
 pub show-spec : {M : Type 1} → statement M
 show-spec =
