@@ -18,10 +18,8 @@ use Rattle.state.specs.declared.Change.{Change}
 use Rattle.state.specs.Answers.{settled, showed}
 use Rattle.state.proofs.Settled.{answerOf, ShowsNone, answered-alone}
 use Rattle.state.proofs.Showing.{Shows}
-use Rattle.running.specs.Narrow.{startOn, yieldOn, reportOn}
-use Rattle.running.proofs.Bridge.{replacePlaces, start-step, yield-step, report-step}
-use Rattle.services.specs.Narrow.{createOn, exitOn, exitHeaps}
-use Rattle.services.proofs.Bridge.{create-step, exit-step}
+use Rattle.services.specs.Narrow.{createOn, startOn, yieldOn, exitOn, exitHeaps, reportOn}
+use Rattle.services.proofs.Bridge.{replacePlaces, create-step, start-step, yield-step, exit-step, report-step}
 use Rattle.shared.specs.Narrow.{sharedWriteAnswer, sharedWriteShared, sharedReadAnswer, sharedReadOutput}
 use Rattle.shared.proofs.Bridge.{shared-write-step, shared-read-step}
 use Rattle.heap.specs.Narrow.{heapWriteAnswer, heapWriteHeaps, heapReadAnswer, heapReadOutput}

@@ -17,8 +17,7 @@ use Rattle.state.specs.declared.Answer.{Answer}
 use Rattle.state.specs.declared.Change.{Change}
 use Rattle.state.specs.Answers.{settled}
 use Rattle.state.specs.Edits.{unchanged, EditsBy, Stored, stored}
-use Rattle.running.specs.Narrow.{startOn, yieldOn, reportOn}
-use Rattle.services.specs.Narrow.{createOn, exitOn, exitHeaps}
+use Rattle.services.specs.Narrow.{createOn, startOn, yieldOn, exitOn, exitHeaps, reportOn}
 use Rattle.shared.specs.Narrow.{sharedWriteAnswer, sharedWriteShared, sharedReadAnswer, sharedReadOutput}
 use Rattle.heap.specs.Narrow.{heapWriteAnswer, heapWriteHeaps, heapReadAnswer, heapReadOutput}
 use Rattle.log.specs.Narrow.{attestOn, checkOn}

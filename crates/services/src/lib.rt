@@ -1,10 +1,15 @@
-// Create and exit: a place is taken and emptied.
+// Create and exit: a place is taken and emptied. Report: what the box holds.
+mod running;
+
+pub use running::start;
+pub use running::yield_running;
 ghost use mathlib.Core.Path.{_≡_};
 ghost use Prim.Native.Nat.{_^_, _<_};
 ghost use Rattle.ideal.specs.Tables.{takenMap};
-ghost use Rattle.services.specs.Narrow.{Leaving, createOn, exitOn, exitHeaps};
+ghost use Rattle.services.specs.Narrow.{Leaving, createOn, exitOn, exitHeaps, reportOn};
 use buffers::clear;
 use ideal::BoxRecord;
+use state::Answer;
 use state::Change;
 use state::accepted;
 use state::refuse;
@@ -59,4 +64,13 @@ pub fn exit_running(b: BoxRecord, heaps: &mut [u8]) -> Change
     next.identities[p] = 0;
     next.running = 16;
     unedited(next, accepted(0))
+}
+
+pub fn report(b: BoxRecord) -> Answer
+    ensures { λ r. ⌜ r ≡ reportOn b ⌝ }
+{
+    let log = b.log;
+    let escrow = b.escrow;
+    let services = u16::count_ones(b.taken);
+    accepted(services as u64 + 256 * (log.rows as u64) + 65536 * (escrow.rows as u64))
 }

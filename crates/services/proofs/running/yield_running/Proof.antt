@@ -2,9 +2,9 @@ use borrow.Author.Needs.{needs}
 use borrow.Author.Tests.{eq-eqb, ne-eqb}
 use Rattle.ideal.specs.Step.{first}
 use Rattle.state.specs.Answers.{settled, answered}
-use Rattle.running.specs.Narrow.{yieldOn}
-use Rattle.running.proofs.yield_running.Statement.{statement}
-use Rattle.running.proofs.yield_running.Tie as tie
+use Rattle.services.specs.Narrow.{yieldOn}
+use Rattle.services.proofs.running.yield_running.Statement.{statement}
+use Rattle.services.proofs.running.yield_running.Tie as tie
 
 refuse-requires : tie.Need-refuse-requires
 refuse-requires c κs = search needs

@@ -3,10 +3,10 @@ use lib.Count as Count
 use borrow.Author.Needs.{needs}
 use Rattle.ideal.specs.Step.{first}
 use Rattle.state.specs.Answers.{answered}
-use Rattle.running.specs.Narrow.{reportOn}
-use Rattle.running.proofs.Ones.{ones-counted}
-use Rattle.running.proofs.report.Statement.{statement}
-use Rattle.running.proofs.report.Tie as tie
+use Rattle.services.specs.Narrow.{reportOn}
+use Rattle.services.proofs.Ones.{ones-counted}
+use Rattle.services.proofs.report.Statement.{statement}
+use Rattle.services.proofs.report.Tie as tie
 
 cast-accepted : tie.Need-cast-accepted
 cast-accepted c =

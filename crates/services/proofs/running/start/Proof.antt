@@ -2,9 +2,9 @@ use borrow.Author.Needs.{needs}
 use borrow.Author.Tests.{eq-eqb, ne-eqb, lt-ltb, le-ltb}
 use Rattle.ideal.specs.Step.{first}
 use Rattle.state.specs.Answers.{settled, answered}
-use Rattle.running.specs.Narrow.{startOn}
-use Rattle.running.proofs.start.Statement.{statement}
-use Rattle.running.proofs.start.Tie as tie
+use Rattle.services.specs.Narrow.{startOn}
+use Rattle.services.proofs.running.start.Statement.{statement}
+use Rattle.services.proofs.running.start.Tie as tie
 
 refuse-requires : tie.Need-refuse-requires
 refuse-requires c κs = search needs

@@ -1,8 +1,7 @@
-// Start, yield and report: a place runs from its start until a yield or an exit.
+// Start and yield: a place runs from its start until a yield or an exit.
 ghost use mathlib.Core.Path.{_≡_};
-ghost use Rattle.running.specs.Narrow.{startOn, yieldOn, reportOn};
+ghost use Rattle.services.specs.Narrow.{startOn, yieldOn};
 use ideal::BoxRecord;
-use state::Answer;
 use state::Change;
 use state::accepted;
 use state::refuse;
@@ -36,13 +35,4 @@ pub fn yield_running(b: BoxRecord) -> Change
     let mut next = b;
     next.running = 16;
     unedited(next, accepted(0))
-}
-
-pub fn report(b: BoxRecord) -> Answer
-    ensures { λ r. ⌜ r ≡ reportOn b ⌝ }
-{
-    let log = b.log;
-    let escrow = b.escrow;
-    let services = u16::count_ones(b.taken);
-    accepted(services as u64 + 256 * (log.rows as u64) + 65536 * (escrow.rows as u64))
 }
