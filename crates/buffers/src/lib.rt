@@ -6,8 +6,7 @@ ghost use lib.Dec.{ltb};
 ghost use lib.ListN.{length, replicate, take, drop};
 ghost use lib.Seq.{sets};
 ghost use mathlib.Core.List.{_++_};
-ghost use Rattle.ideal.specs.State.{sameBytes};
-ghost use Rattle.ideal.specs.Soundness.{allZero};
+ghost use Rattle.lists.specs.Lists.{sameBytes, allZero};
 
 // Whether the bytes of four parts of one length are 0: joined by `|`, with no way out of the loop, so that it is compiled to
 // vector code, and four parts a turn, so that the loop's own steps cost little beside them.

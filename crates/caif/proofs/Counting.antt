@@ -10,7 +10,7 @@ use Rattle.ideal.specs.declared.BoxRecord.{BoxRecord}
 use Rattle.ideal.specs.declared.LogRow.{LogRow}
 use Rattle.ideal.specs.declared.EscrowRow.{EscrowRow}
 use Rattle.ideal.specs.Tables.{Tables}
-use Rattle.ideal.proofs.Bools.{by-cases}
+use Rattle.lists.proofs.Bools.{by-cases}
 use Rattle.ideal.proofs.Facts.{facts}
 use Rattle.soundness.specs.Parts.{tablesOf}
 use Rattle.state.specs.declared.LogTable.{LogTable}

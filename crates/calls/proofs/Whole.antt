@@ -17,7 +17,7 @@ use Rattle.ideal.specs.Tables.{Tables, stateOf}
 use Rattle.ideal.specs.Soundness.{pass, sizesRight, sound}
 use Rattle.ideal.specs.Box.{laid, unsound, callOn, outputAfter}
 use Rattle.ideal.specs.Layouts.{Sound}
-use Rattle.ideal.proofs.Bools.{and-left, and-right}
+use Rattle.lists.proofs.Bools.{and-left, and-right}
 use Rattle.ideal.proofs.Laid.{tables-state}
 use Rattle.ideal.specs.declared.BoxRecord.{BoxRecord}
 use Rattle.state.specs.declared.LogTable.{LogTable}

@@ -17,7 +17,7 @@ use Rattle.ideal.specs.Box.{Element, laid, unsound, callOn}
 use Rattle.ideal.specs.Layouts.{Sound}
 use Rattle.ideal.specs.Refusals.{oneOf}
 use Rattle.ideal.specs.Answers.{plainNumber, Answered, AcceptedAnswers}
-use Rattle.ideal.proofs.Bools.{by-cases, and-left, and-right}
+use Rattle.lists.proofs.Bools.{by-cases, and-left, and-right}
 use Rattle.ideal.proofs.Chain.{failed, passed}
 use Rattle.ideal.specs.Valid.{Valid}
 use Rattle.ideal.proofs.Kept.{busy}

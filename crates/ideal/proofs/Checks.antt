@@ -15,8 +15,8 @@ use Rattle.ideal.specs.Step.{isLogged, logged, tests, first, refusal, nu
 use Rattle.ideal.specs.Tables.{stateOf}
 use Rattle.ideal.specs.Box.{Element, laid, callOn, elementAt}
 use Rattle.ideal.specs.Accuracy.{LogsAt, Says, Sized, CheckAt, LongCheckIsNo}
-use Rattle.ideal.proofs.Bools.{by-cases, clash, and-left, and-right, and-false, or-false}
-use Rattle.ideal.proofs.Lists.{same-bytes}
+use Rattle.lists.proofs.Bools.{by-cases, clash, and-left, and-right, and-false, or-false}
+use Rattle.lists.proofs.Lists.{same-bytes}
 use Rattle.ideal.proofs.Facts.{output-size}
 use Rattle.ideal.proofs.Laid.{valid-sound, tables-state, call-is}
 use Rattle.ideal.proofs.Chain.{failed}

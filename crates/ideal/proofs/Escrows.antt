@@ -16,9 +16,9 @@ use Rattle.ideal.specs.Step.{isEscrowed, found, hasHandle, protected, te
 use Rattle.ideal.specs.Soundness.{sameHandle}
 use Rattle.ideal.specs.Box.{Element, callOn, elementAt}
 use Rattle.ideal.specs.Accuracy.{Earlier, ProtectsAt, ProtectedBefore}
-use Rattle.ideal.proofs.Bools.{and-left, and-right, and-true}
+use Rattle.lists.proofs.Bools.{and-left, and-right, and-true}
 use Rattle.ideal.proofs.Chain.{failed, passed}
-use Rattle.ideal.proofs.Lists.{same-bytes, same-bytes-refl, any-append, any-one}
+use Rattle.lists.proofs.Lists.{same-bytes, same-bytes-refl, any-append, any-one}
 use Rattle.ideal.proofs.Unique.{finds, found-any}
 use Rattle.ideal.specs.Valid.{Valid}
 use Rattle.ideal.proofs.Kept.{busy}

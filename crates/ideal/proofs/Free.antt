@@ -13,7 +13,7 @@ use Rattle.record.specs.declared.Draw.{Draw}
 use Rattle.ideal.specs.State.{Escrowed, any}
 use Rattle.ideal.specs.Step.{hasHandle, handleOf, next, freeFrom, freeHandle}
 use Rattle.ideal.specs.Accuracy.{candidate}
-use Rattle.ideal.proofs.Bools.{by-cases, clash}
+use Rattle.lists.proofs.Bools.{by-cases, clash}
 
 -- ---- more tests than elements, and no element passes two: some test no element passes
 

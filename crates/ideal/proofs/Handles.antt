@@ -16,8 +16,8 @@ use Rattle.ideal.specs.Soundness.{sizesRight, sound}
 use Rattle.ideal.specs.Box.{Element, callOn, laid, unsound}
 use Rattle.ideal.specs.Layouts.{Sound}
 use Rattle.ideal.specs.Accuracy.{Earlier, ProtectsAt, candidate, handleUsed, HandleOnce, HandleIsFirstFree}
-use Rattle.ideal.proofs.Bools.{by-cases, clash, and-left, and-right}
-use Rattle.ideal.proofs.Lists.{any-at, at-any}
+use Rattle.lists.proofs.Bools.{by-cases, clash, and-left, and-right}
+use Rattle.lists.proofs.Lists.{any-at, at-any}
 use Rattle.ideal.proofs.Laid.{stepElement, valid-sound, tables-state, call-is}
 use Rattle.ideal.proofs.Free.{later-is, first-free, free-handle}
 use Rattle.ideal.proofs.Runs.{stateBefore, valid-before, accepted-at, accepted-call, call-accepted, number-at}

@@ -18,7 +18,7 @@ use Rattle.ideal.specs.Box.{Element, laid, callOn, elementAt, tablesFrom
 use Rattle.ideal.specs.Refusals.{ownBytes}
 use Rattle.ideal.specs.History.{Event, wrote, attested, escrowed, eventOf, added, pastFrom, pastOf, ones, pairs, protects, AsThePast, Shows, HistoryHolds, Accepts, Reports}
 use Rattle.ideal.proofs.Accepts.{Accepted, accepted-of}
-use Rattle.ideal.proofs.Bools.{by-cases}
+use Rattle.lists.proofs.Bools.{by-cases}
 use Rattle.ideal.proofs.Chain.{failed, passed}
 use Rattle.ideal.specs.Valid.{Valid}
 use Rattle.ideal.proofs.Kept.{busy, own-size}

@@ -15,9 +15,10 @@ use Rattle.record.specs.Read.{Reading, refused, whole, read}
 use Rattle.ideal.specs.State.{Entry, Logged, Escrowed, State, cleared, fresh, identityAt, heapAt, caller, ownPart, any, every, sameBytes, bytesUsed}
 use Rattle.ideal.specs.Step.{isPair, paired, full, withPair, hasHandle, idle, vacant, beyond, tests, refusal, withHeap, withRunning, withIdentity, withShared, withLog, withEscrow, written, protected, effect, accepted, refuse, settle, step, onReading, stepOn}
 use Rattle.ideal.specs.Soundness.{differ, samePair, sameHandle, rightTag}
-use Rattle.ideal.proofs.Bools.{by-cases, and-true, and-other, or-false-left, or-false-right, not-is}
+use Rattle.lists.proofs.Bools.{by-cases, and-true, and-other, or-false-left, or-false-right, not-is}
 use Rattle.ideal.proofs.Chain.{failed, passed}
-use Rattle.ideal.proofs.Lists.{bytes-more, every-more, differ-more}
+use Rattle.lists.proofs.Lists.{every-more}
+use Rattle.ideal.proofs.Lists.{bytes-more, differ-more}
 use Rattle.ideal.proofs.Free.{free-handle, handle-size}
 use Rattle.ideal.specs.Valid.{Fitting, goodLogged, goodEscrowed, Valid}
 

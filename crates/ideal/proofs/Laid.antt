@@ -16,7 +16,7 @@ use Rattle.ideal.specs.Tables.{Tables, RowsOf, logTable, escrowTable, pa
 use Rattle.ideal.specs.Soundness.{sizesRight, runningTaken, short, hasIdentity, hasIdentities, rightTag, differ, samePair, sameHandle, sound}
 use Rattle.ideal.specs.Box.{Element, laid, callOn, unsound}
 use Rattle.ideal.specs.Layouts.{Sound, LayoutsAgree, StatesAgree, StaysSound, FreshBox}
-use Rattle.ideal.proofs.Bools.{by-cases, and-left, and-right, and-true, or-true-left, or-true-right, not-is}
+use Rattle.lists.proofs.Bools.{by-cases, and-left, and-right, and-true, or-true-left, or-true-right, not-is}
 use Rattle.ideal.specs.Valid.{Fitting, Valid}
 use Rattle.ideal.proofs.Kept.{Places, LogGood, EscrowGood, valid, valid-on}
 use Rattle.ideal.proofs.Table.{Lawful, Stands, held, used-rows, entries-back, laid-out, rows-of-entries, entry-count, byte-count, rows-back, values-back, log-lawful, escrow-lawful}

@@ -14,9 +14,9 @@ use Rattle.ideal.specs.Step.{isPair, isLogged, paired, logged, withPair,
 use Rattle.ideal.specs.Soundness.{rightTag}
 use Rattle.ideal.specs.Box.{Element, callOn, elementAt}
 use Rattle.ideal.specs.Accuracy.{Earlier, LogsAt}
-use Rattle.ideal.proofs.Bools.{by-cases, and-left, and-right, and-true, or-nil}
+use Rattle.lists.proofs.Bools.{by-cases, and-left, and-right, and-true, or-nil}
 use Rattle.ideal.proofs.Chain.{failed, passed}
-use Rattle.ideal.proofs.Lists.{same-bytes, same-bytes-refl, any-append, any-one, every-at, any-at, at-any}
+use Rattle.lists.proofs.Lists.{same-bytes, same-bytes-refl, any-append, any-one, every-at, any-at, at-any}
 use Rattle.ideal.specs.Valid.{Valid, goodLogged}
 use Rattle.ideal.proofs.Kept.{busy}
 use Rattle.ideal.proofs.Runs.{stateBefore, valid-before, caller-before, own-before, accepted-at, accepts-at, Accepted, number-at}

@@ -15,9 +15,10 @@ use Rattle.record.specs.Call.{Call, create, start, yield, exit, heapWrite, heap
 use Rattle.ideal.specs.State.{Entry, Logged, State, cleared, fresh, identityAt, heapAt, caller, ownPart, any, bytesUsed}
 use Rattle.ideal.specs.Step.{isPair, paired, withPair, found, valueIn, tests, refusal, vacant, beyond, withHeap, withRunning, withIdentity, withShared, withLog, withEscrow, written, protected, effect}
 use Rattle.ideal.specs.History.{Event, created, started, yielded, exited, wrote, attested, escrowed, looked, runs, holder, within, byteAt, isAttested, pairs, protects}
-use Rattle.ideal.proofs.Bools.{by-cases}
+use Rattle.lists.proofs.Bools.{by-cases}
 use Rattle.ideal.proofs.Chain.{failed, passed}
-use Rattle.ideal.proofs.Lists.{bytes-more, any-append}
+use Rattle.lists.proofs.Lists.{any-append}
+use Rattle.ideal.proofs.Lists.{bytes-more}
 use Rattle.ideal.specs.Valid.{Valid}
 use Rattle.ideal.proofs.Kept.{busy}
 use Rattle.ideal.proofs.Memory.{set-at, sets-byte}

@@ -18,7 +18,7 @@ use Rattle.ideal.specs.Tables.{tables}
 use Rattle.ideal.specs.Box.{Element, callOn, elementAt, tablesBefore, answerAt}
 use Rattle.ideal.specs.Refusals.{ownBytes}
 use Rattle.ideal.specs.Accuracy.{ProtectsAt, Sized, Runs, ProtectedBefore, HandsOut, RetrieveAt, withOwnBytes}
-use Rattle.ideal.proofs.Bools.{by-cases}
+use Rattle.lists.proofs.Bools.{by-cases}
 use Rattle.ideal.specs.Valid.{Valid}
 use Rattle.ideal.proofs.Kept.{busy}
 use Rattle.ideal.proofs.OwnHeap.{own-written, written-stands}

@@ -16,7 +16,7 @@ use Rattle.ideal.specs.Tables.{Tables, escrowTable, entryOf, rowsFrom, r
 use Rattle.ideal.specs.Box.{Element, laid, callOn}
 use Rattle.ideal.specs.Refusals.{ownBytes}
 use Rattle.ideal.specs.Secrecy.{inside, groupRuns, groupToGroup, AlikeAt, same, other-bytes, EqualAt, AgreeOutside, PremiseAt, Secrecy}
-use Rattle.ideal.proofs.Bools.{by-cases, and-false, and-other, clash}
+use Rattle.lists.proofs.Bools.{by-cases, and-false, and-other, clash}
 use Rattle.ideal.proofs.Chain.{failed, passed}
 use Rattle.ideal.specs.Valid.{Valid}
 use Rattle.ideal.proofs.Laid.{stepElement, valid-fresh, valid-step, fresh-tables, call-is}

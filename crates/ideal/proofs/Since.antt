@@ -12,7 +12,7 @@ use Rattle.ideal.specs.State.{State, fresh, any}
 use Rattle.ideal.specs.Step.{effect}
 use Rattle.ideal.specs.Box.{Element, elementAt}
 use Rattle.ideal.specs.Accuracy.{Earlier}
-use Rattle.ideal.proofs.Bools.{by-cases, clash, or-split, or-true-left, or-true-right}
+use Rattle.lists.proofs.Bools.{by-cases, clash, or-split, or-true-left, or-true-right}
 use Rattle.ideal.specs.Valid.{Valid}
 use Rattle.ideal.proofs.Runs.{stateBefore, valid-before, Accepted, stays, moves, moved, state-first, state-next, state-after}
 

@@ -15,7 +15,7 @@ use Rattle.record.specs.declared.Draw.{Draw}
 use Rattle.record.specs.Call.{Call, create, start, yield, exit, heapWrite, heapRead, sharedWrite, sharedRead, attest, check, protect, retrieve, report}
 use Rattle.ideal.specs.State.{EscrowKey, Logged, Escrowed, State, cleared, identityAt, heapAt, caller, part, ownPart}
 use Rattle.ideal.specs.Step.{found, absent, first, idle, vacant, beyond, tests, refusal, withHeap, withRunning, withIdentity, withShared, withLog, withEscrow, written, protected, effect, number, shown}
-use Rattle.ideal.proofs.Bools.{by-cases, clash}
+use Rattle.lists.proofs.Bools.{by-cases, clash}
 use Rattle.ideal.proofs.Chain.{failed, passed}
 use Rattle.ideal.proofs.TwoEscrows.{SameEntry, SameEscrow, SameFound, same-escrow, same-count, same-full, same-handle, same-more, same-find}
 

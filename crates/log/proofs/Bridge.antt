@@ -17,7 +17,7 @@ use Rattle.ideal.specs.Step.{paired, logged, full, withPair, withLog, first, id
 use Rattle.ideal.specs.Tables.{Tables, logTable, rowsFrom, flat, usedBy, boxRecord, tables, stateOf}
 use Rattle.ideal.specs.Soundness.{hasIdentity}
 use Rattle.ideal.specs.Box.{Result, laid}
-use Rattle.ideal.proofs.Bools.{by-cases, and-right, and-other, not-is}
+use Rattle.lists.proofs.Bools.{by-cases, and-right, and-other, not-is}
 use Rattle.ideal.specs.Valid.{Valid}
 use Rattle.ideal.proofs.Chain.{failed, passed}
 use Rattle.ideal.proofs.Kept.{own-size, busy}

@@ -12,7 +12,7 @@ use Rattle.record.specs.Read.{Reading, refused, whole, read, cut}
 use Rattle.ideal.specs.Tables.{Tables}
 use Rattle.ideal.specs.Box.{Element, Result, elementAt, tablesFrom}
 use Rattle.paper.specs.Paper.{Event, eventOf, eventOn, events, behaviourFrom, eventAt}
-use Rattle.ideal.proofs.Bools.{by-cases}
+use Rattle.lists.proofs.Bools.{by-cases}
 
 few-on : (t : Tables) (r : Result) (c : Call) → length (eventOn t r c) ≤ 1
 unfolding eventOn eventOf

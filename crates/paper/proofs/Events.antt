@@ -19,7 +19,7 @@ use Rattle.ideal.specs.Box.{Element, Result, callOn, elementAt, tablesAfter, ta
 use Rattle.ideal.specs.Refusals.{callerIn, ownBytes}
 use Rattle.ideal.specs.Accuracy.{Earlier, LogsAt, ProtectsAt, HandsOut, Sized, Says}
 use Rattle.paper.specs.Paper.{Command, iattest, icheck, iprotect, iretrieve, Response, tag, truth, handle, value, fails, Event, principalIn, eventOf, eventOn, events, behaviour, eventAt}
-use Rattle.ideal.proofs.Bools.{by-cases, clash}
+use Rattle.lists.proofs.Bools.{by-cases, clash}
 use Rattle.ideal.proofs.Runs.{stateBefore, valid-before, running-before, tables-next, sized-at, accepted-at}
 use Rattle.ideal.proofs.Logs.{attest-passed}
 use Rattle.ideal.proofs.Escrows.{protect-passed}

@@ -14,7 +14,7 @@ use Rattle.ideal.specs.Box.{Element, laid, callOn}
 use Rattle.ideal.specs.Layouts.{Sound}
 use Rattle.ideal.specs.Valid.{Valid}
 use Rattle.paper.specs.ServiceLife.{heapOf, OnlyOtherHeaps, ReadsOwnHeap}
-use Rattle.ideal.proofs.Bools.{by-cases, clash, and-false, and-other, not-is}
+use Rattle.lists.proofs.Bools.{by-cases, clash, and-false, and-other, not-is}
 use Rattle.ideal.proofs.Heaps.{chunks-length}
 use Rattle.ideal.proofs.Laid.{valid-sound, tables-state, valid-step, call-is}
 use Rattle.ideal.proofs.Hosted.{heap-is}

@@ -16,7 +16,7 @@ use Rattle.ideal.specs.Box.{Element, callOn, elementAt, tablesBefore, answerAt}
 use Rattle.ideal.specs.Refusals.{ownBytes}
 use Rattle.ideal.specs.Accuracy.{Earlier, ProtectsAt, candidate, handleUsed, FirstFree}
 use Rattle.paper.specs.Paper.{Command, iattest, icheck, iprotect, iretrieve, Response, truth, value, fails, behaviour, needsService, Lemma1-1, Lemma1-2, Lemma2-1, Lemma2-2, OnlyServices, Definition1, Gives, Assumption-i, Assumption-ii, Assumption-iii}
-use Rattle.ideal.proofs.Bools.{by-cases, clash}
+use Rattle.lists.proofs.Bools.{by-cases, clash}
 use Rattle.ideal.proofs.Runs.{stateBefore, running-before, code-at}
 use Rattle.ideal.proofs.Checks.{check-at}
 use Rattle.ideal.proofs.Retrieves.{retrieve-at, handed}

@@ -25,7 +25,7 @@ use Rattle.ideal.specs.History.{within}
 use Rattle.ideal.specs.Valid.{Valid}
 use Rattle.ideal.specs.Witness.{element}
 use Rattle.paper.specs.Paper.{iprotect, iretrieve, handle, value, Event, eventOn, events, behaviourFrom, behaviour, eventAt, Occurs, NeverRetrieved, BehavesWithTwo, Lemma3-1}
-use Rattle.ideal.proofs.Bools.{by-cases, clash, and-left, and-right, and-true}
+use Rattle.lists.proofs.Bools.{by-cases, clash, and-left, and-right, and-true}
 use Rattle.ideal.proofs.Memory.{sets-byte, part-at}
 use Rattle.ideal.proofs.Facts.{facts}
 use Rattle.ideal.proofs.Accepts.{sound-of}

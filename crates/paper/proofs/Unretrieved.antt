@@ -20,7 +20,7 @@ use Rattle.ideal.specs.Layouts.{Sound}
 use Rattle.ideal.specs.Refusals.{isRow}
 use Rattle.ideal.specs.Valid.{Valid}
 use Rattle.paper.specs.Paper.{principalIn, eventOf, eventOn, events, behaviourFrom, OnlyValue, NeverRetrieved, AgreeBut, Lemma3}
-use Rattle.ideal.proofs.Bools.{by-cases, and-left, and-right}
+use Rattle.lists.proofs.Bools.{by-cases, and-left, and-right}
 use Rattle.ideal.proofs.Facts.{facts}
 use Rattle.ideal.proofs.Laid.{stepElement, valid-sound, tables-state, valid-step, call-is}
 use Rattle.ideal.proofs.TwoEscrows.{SameEntry, SameEscrow, no-entries, entry}

@@ -3,7 +3,7 @@ use mathlib.Core.Path.{_≡_, sym, _∙_}
 use native.Mathlib.Omega.{arith}
 use lib.Dec.{ltb}
 use borrow.Author.Tests.{ltb-true, ltb-false, lt-ltb, le-ltb}
-use Rattle.ideal.proofs.Bools.{by-cases}
+use Rattle.lists.proofs.Bools.{by-cases}
 use Rattle.buffers.proofs.beyond.Statement.{statement}
 use Rattle.buffers.proofs.beyond.Tie as tie
 

@@ -4,7 +4,7 @@ use mathlib.Core.Bool.{_&&_}
 use native.Mathlib.Omega.{arith}
 use lib.Dec.{eqb}
 use lib.ListN.{length, drop}
-use Rattle.ideal.specs.Soundness.{allZero}
+use Rattle.lists.specs.Lists.{allZero}
 use Rattle.buffers.proofs.Loops.{four-step, four-ends}
 use Rattle.buffers.proofs.four_zero.Statement.{statement}
 use Rattle.buffers.proofs.four_zero.Tie as tie

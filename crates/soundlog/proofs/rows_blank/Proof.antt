@@ -7,7 +7,7 @@ use lib.Seq.{drop-length}
 use lib.ListN.{length, drop, getD}
 use lib.Dec.{eqb}
 use borrow.Author.Needs.{needs}
-use Rattle.ideal.proofs.Bools.{and-nil}
+use Rattle.lists.proofs.Bools.{and-nil}
 use Rattle.ideal.specs.Tables.{logTable}
 use Rattle.ideal.specs.State.{every}
 use Rattle.soundness.specs.Tests.{logBits}

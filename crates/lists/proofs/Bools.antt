@@ -79,3 +79,9 @@ and-assoc false b c = refl
 pub and-nil : (a : Bool) → a && true ≡ a
 and-nil true = refl
 and-nil false = refl
+
+pub and-swap : (a b c d : Bool) → (a && b) && (c && d) ≡ (a && c) && (b && d)
+and-swap true true c d = refl
+and-swap true false true d = refl
+and-swap true false false d = refl
+and-swap false b c d = refl
