@@ -12,7 +12,7 @@ use Rattle.ideal.specs.declared.BoxRecord.{BoxRecord}
 use Rattle.ideal.specs.declared.EscrowRow.{EscrowRow}
 use Rattle.ideal.specs.declared.Used.{Used}
 use Rattle.ideal.specs.State.{State, EscrowKey, Escrowed, part, ownPart, heapAt}
-use Rattle.ideal.specs.Step.{freeHandle, full, _then_, accept, first, idle, beyond, tests, refusal, withEscrow, protected, effect, number, shown, step}
+use Rattle.ideal.specs.Step.{freeHandle, full, _then_, accept, first, idle, beyond, tests, refusal, withEscrow, protected, move, apply, effect, number, shown, step}
 use Rattle.ideal.specs.Tables.{Tables, escrowTable, usedBy, boxRecord, tables, stateOf}
 use Rattle.ideal.specs.Box.{Result, laid}
 use Rattle.ideal.proofs.Chain.{failed, passed}
@@ -162,7 +162,7 @@ module _ (t : Tables) (k : Valid (stateOf t)) (e : tables (stateOf t) ≡ t) whe
       entry-is = rw (value-is, value-size)
 
     protect-moves : Moves t (withMore t key value) (protect i o n d) (key .handle .0) []
-    unfolding effect number shown stateOf
+    unfolding effect move apply number shown stateOf
     protect-moves =
         record {
           leaves = λ r.

@@ -21,7 +21,8 @@ use Rattle.ideal.proofs.Lists.{any-at, at-any}
 use Rattle.ideal.proofs.Laid.{stepElement, valid-sound, tables-state, call-is}
 use Rattle.ideal.proofs.Free.{later-is, first-free, free-handle}
 use Rattle.ideal.proofs.Runs.{stateBefore, valid-before, accepted-at, accepted-call, call-accepted, number-at}
-use Rattle.ideal.proofs.Escrows.{protect-passed, isHeld, is-held, held-since}
+use Rattle.ideal.proofs.Does.{protect-passed}
+use Rattle.ideal.proofs.Escrows.{isHeld, is-held, held-since}
 
 -- ---- no handle is given twice
 

@@ -7,8 +7,8 @@ use native.Mathlib.Omega.{arith}
 use native.Mathlib.Nat.{zero-add}
 use lib.ListN.{length, getD, set, drop-of-length-le}
 use lib.Seq.{sets, sets-eq}
-use Rattle.ideal.specs.State.{part, ownPart}
-use Rattle.ideal.specs.Step.{withHeap, withShared, written}
+use Rattle.ideal.specs.State.{writes, part, ownPart}
+use Rattle.ideal.specs.Step.{withHeap, withShared, apply}
 use Rattle.ideal.specs.Valid.{Valid}
 use Rattle.ideal.specs.Tables.{Tables, flat, boxRecord, tables, stateOf}
 use Rattle.ideal.proofs.Heaps.{Sized}
@@ -72,7 +72,7 @@ module _ (t : Tables) (k : Valid (stateOf t)) (e : tables (stateOf t) ≡ t) whe
       ∙ ap (λ l. part l (256 * t .box .running + o) n) heaps-flat
 
   pub with-heap : (h : List ℕ)
-      → tables (withHeap (stateOf t) h) ≡ replaceHeaps t (flat (set (stateOf t .heaps) (t .box .running) h))
+      → tables (withHeap (stateOf t) (t .box .running) h) ≡ replaceHeaps t (flat (set (stateOf t .heaps) (t .box .running) h))
   unfolding tables boxRecord withHeap stateOf
   with-heap h = λ i.
       record {
@@ -87,8 +87,8 @@ module _ (t : Tables) (k : Valid (stateOf t)) (e : tables (stateOf t) ≡ t) whe
 
   -- bytes written to the running heap, by a heap write or a retrieve
   pub written-bytes : (o : ℕ) (v : List ℕ) → t .box .running < 16 → o + length v ≤ 256
-      → tables (written (stateOf t) o v) ≡ replaceHeaps t (sets (t .heaps) (256 * t .box .running + o) v)
-  unfolding written stateOf
+      → tables (apply (stateOf t) (writes (t .box .running) o v)) ≡ replaceHeaps t (sets (t .heaps) (256 * t .box .running + o) v)
+  unfolding apply stateOf
   written-bytes o v h f =
       with-heap _
       ∙ ap (replaceHeaps t)

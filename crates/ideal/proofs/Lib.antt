@@ -11,7 +11,11 @@ pub mod Memory
 pub mod OwnHeap
 pub mod HeapBytes
 pub mod CallNumbers
+pub mod Does
 pub mod Kept
+pub mod TwoEscrows
+pub mod TwoStates
+pub mod ByKind
 pub mod Facts
 pub mod Laid
 pub mod SoundStates
@@ -29,8 +33,6 @@ pub mod Checks
 pub mod Retrieves
 pub mod Handles
 pub mod Accurate
-pub mod TwoEscrows
-pub mod TwoStates
 pub mod Hosted
 pub mod TwoRuns
 pub mod Secret

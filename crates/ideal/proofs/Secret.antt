@@ -23,7 +23,8 @@ use Rattle.ideal.proofs.Laid.{stepElement, valid-fresh, valid-step, fre
 use Rattle.ideal.proofs.Hosted.{heap-is, escrowed-is}
 use Rattle.ideal.proofs.OwnHeap.{own-bytes}
 use Rattle.ideal.proofs.TwoEscrows.{SameEscrow, no-entries, entry, same-count, same-bytes-used, same-at}
-use Rattle.ideal.proofs.TwoStates.{Secrets, SameBut, same-state, AlikeCalls, same-call, other-call, NoneTold, same-refusal, same-effect, same-number, same-shown}
+use Rattle.ideal.proofs.TwoStates.{Secrets, SameBut, same-state, AlikeCalls, same-call, other-call, NoneTold}
+use Rattle.ideal.proofs.ByKind.{same-in-both, same-effect}
 use Rattle.ideal.proofs.TwoRuns.{Preserved, Stepped, secrecy-of}
 
 -- a branch of each side, by the same test
@@ -79,15 +80,16 @@ module _ (G : ℕ → Bool) {s t : State} (k : SameBut (held G) s t) where
       → Both G s (settle n s c u) (settle n t d u)
   unfolding settle accepted groupRuns tables boxRecord
   both-settle zero u a p r =
+      let c = same-in-both (held G) k a (none-told G p) in
       record {
         state = same-effect (held G) k a (none-told G p) r;
-        answer = record { code = refl; number = same-number (held G) k a (none-told G p) r; used = refl; shown = same-shown (held G) k a };
+        answer = record { code = refl; number = c .answers r; used = refl; shown = c .shows };
       }
   both-settle (suc n) u a p r = both-refuse (suc n) 0 u
 
   both-step : {c d : Call} (u : ℕ) → AlikeCalls (held G) s c d → Disclosed G s t c → Both G s (step s c u) (step t d u)
   unfolding step
-  both-step {c} u a p = rw (← same-refusal (held G) k a (none-told G p)) (both-settle (refusal s c) u a p refl)
+  both-step {c} u a p = rw (← same-in-both (held G) k a (none-told G p) .refuses) (both-settle (refusal s c) u a p refl)
 
 -- ---- the premise, on the states
 

@@ -1,23 +1,21 @@
--- Two states that differ in secrets alone, and one call made on both. Assumes nothing.
+-- Two states that differ in secrets alone, and one move made on both. Assumes nothing.
 use Prim.Native.Nat.{ℕ, zero, suc, _+_, _≤_}
 use mathlib.Core.Path.{_≡_, refl, sym, ap, _∙_, subst}
 use mathlib.Core.Logic.{_≢_}
 use mathlib.Core.Bool.{Bool, true, false}
-use mathlib.Core.List.{List, [], _∷_, _++_}
+use mathlib.Core.List.{List, [], _∷_}
 use native.Mathlib.Omega.{arith}
 use lib.ListN.{length, getD, set, length-take, length-drop, length-set}
 use lib.Seq.{sets, length-sets, getD-set-other}
-use lib.Dec.{eqb, ltb}
-use borrow.Author.Tests.{ltb-false, eqb-true, eqb-false, not-false}
-use Rattle.fnv.specs.Fnv.{tagOf}
+use lib.Dec.{eqb}
+use borrow.Author.Tests.{eqb-true, eqb-false}
 use Rattle.record.specs.declared.Handle.{Handle}
 use Rattle.record.specs.declared.Draw.{Draw}
-use Rattle.record.specs.Call.{Call, create, start, yield, exit, heapWrite, heapRead, sharedWrite, sharedRead, attest, check, protect, retrieve, report}
-use Rattle.ideal.specs.State.{EscrowKey, Logged, Escrowed, State, cleared, identityAt, heapAt, caller, part, ownPart}
-use Rattle.ideal.specs.Step.{found, absent, first, idle, vacant, beyond, tests, refusal, withHeap, withRunning, withIdentity, withShared, withLog, withEscrow, written, protected, effect, number, shown}
-use Rattle.ideal.proofs.Bools.{by-cases, clash}
-use Rattle.ideal.proofs.Chain.{failed, passed}
-use Rattle.ideal.proofs.TwoEscrows.{SameEntry, SameEscrow, SameFound, same-escrow, same-count, same-full, same-handle, same-more, same-find}
+use Rattle.record.specs.Call.{Call, heapWrite, attest, protect, retrieve}
+use Rattle.ideal.specs.State.{EscrowKey, Logged, Escrowed, State, Move, nothing, takes, activates, empties, writes, shares, logs, escrows, cleared, identityAt, heapAt, caller, part, ownPart}
+use Rattle.ideal.specs.Step.{found, idle, vacant, refusal, withPair, protected, withHeap, withRunning, withIdentity, withShared, withLog, withEscrow, apply}
+use Rattle.ideal.proofs.Bools.{by-cases}
+use Rattle.ideal.proofs.TwoEscrows.{SameEntry, SameEscrow, SameFound, same-escrow, same-more, same-find}
 
 -- ---- lists
 
@@ -90,19 +88,19 @@ module _ (z : Secrets) {s t : State} (k : SameBut z s t) where
   pub same-caller : caller s ≡ caller t
   same-caller = rw (k .identities, k .running)
 
-  same-idle : idle s ≡ idle t
+  pub same-idle : idle s ≡ idle t
   unfolding idle
   same-idle = rw (k .running)
 
-  same-vacant : (p : ℕ) → vacant s p ≡ vacant t p
+  pub same-vacant : (p : ℕ) → vacant s p ≡ vacant t p
   unfolding vacant
   same-vacant p = rw (k .identities)
 
-  same-size : (o n : ℕ) → length (ownPart s o n) ≡ length (ownPart t o n)
+  pub same-size : (o n : ℕ) → length (ownPart s o n) ≡ length (ownPart t o n)
   unfolding ownPart
   same-size o n = rw (← k .running) (length-part _ _ o n (k .heaps .sizes (s .running)))
 
-  same-found : (i : ℕ) (h : Handle)
+  pub same-found : (i : ℕ) (h : Handle)
       → SameFound (z .value (record { source = i; recipient = caller s; handle = h })) (found s i h) (found t i h)
   unfolding found
   same-found i h = rw same-caller (same-find (z .value) h i (caller t) (k .escrow))
@@ -112,30 +110,28 @@ module _ (z : Secrets) {s t : State} (k : SameBut z s t) where
   same-heap : z .heap (s .running) (caller s) ≡ false → heapAt s (s .running) ≡ heapAt t (s .running)
   same-heap g = k .heaps .open-places (s .running) g
 
-  same-own : (o n : ℕ) → z .heap (s .running) (caller s) ≡ false → ownPart s o n ≡ ownPart t o n
+  pub same-own : (o n : ℕ) → z .heap (s .running) (caller s) ≡ false → ownPart s o n ≡ ownPart t o n
   unfolding ownPart
   same-own o n g = rw (← k .running, same-heap g)
 
-  -- ---- the parts of an effect
+  -- ---- the parts of a move
 
-  with-heap : (x y : List ℕ) → length x ≡ length y → (z .heap (s .running) (caller s) ≡ false → x ≡ y)
-      → SameBut z (withHeap s x) (withHeap t y)
+  with-heap : (i : ℕ) (x y : List ℕ) → length x ≡ length y → (z .heap i (identityAt s i) ≡ false → x ≡ y)
+      → SameBut z (withHeap s i x) (withHeap t i y)
   unfolding withHeap
-  with-heap x y n e =
+  with-heap i x y n e =
       record {
         identities = k .identities;
         running = k .running;
         heaps =
             record {
-              places = length-set (s .heaps) (s .running) x ∙ k .heaps .places ∙ sym (length-set (t .heaps) (t .running) y);
+              places = length-set (s .heaps) i x ∙ k .heaps .places ∙ sym (length-set (t .heaps) i y);
               sizes = λ p.
-                  rw (← k .running)
-                  (set-pointwise (λ a b. length a ≡ length b) [] (s .heaps) (t .heaps) (s .running) p x y (k .heaps .places) refl
-                  (λ _. k .heaps .sizes p) (λ _. n));
+                  set-pointwise (λ a b. length a ≡ length b) [] (s .heaps) (t .heaps) i p x y (k .heaps .places) refl
+                  (λ _. k .heaps .sizes p) (λ _. n);
               open-places = λ p g.
-                  rw (← k .running)
-                  (set-pointwise (λ a b. a ≡ b) [] (s .heaps) (t .heaps) (s .running) p x y (k .heaps .places) refl
-                  (λ _. k .heaps .open-places p g) (λ q. e (rw (← q) g)));
+                  set-pointwise (λ a b. a ≡ b) [] (s .heaps) (t .heaps) i p x y (k .heaps .places) refl
+                  (λ _. k .heaps .open-places p g) (λ q. e (rw (← q) g));
             };
         shared = k .shared;
         log = k .log;
@@ -174,171 +170,74 @@ module _ (z : Secrets) {s t : State} (k : SameBut z s t) where
         escrow = k .escrow;
       }
 
-  with-shared : (f : List ℕ → List ℕ) → SameBut z (withShared s (f (s .shared))) (withShared t (f (t .shared)))
+  with-shared : (m : List ℕ) → SameBut z (withShared s m) (withShared t m)
   unfolding withShared
-  with-shared f =
+  with-shared m =
       record {
         identities = k .identities;
         running = k .running;
         heaps = k .heaps;
-        shared = ap f (k .shared);
+        shared = refl;
         log = k .log;
         escrow = k .escrow;
       }
 
-  with-log : (l m : List Logged) → l ≡ m → SameBut z (withLog s l) (withLog t m)
+  with-log : (l : List Logged) → SameBut z (withLog s l) (withLog t l)
   unfolding withLog
-  with-log l m e =
+  with-log l =
       record {
         identities = k .identities;
         running = k .running;
         heaps = k .heaps;
         shared = k .shared;
-        log = e;
+        log = refl;
         escrow = k .escrow;
       }
 
-  with-entry : (r q : Escrowed) → SameEntry (z .value) r q
-      → SameBut z (withEscrow s (s .escrow ++ (r ∷ []))) (withEscrow t (t .escrow ++ (q ∷ [])))
+  with-escrow : (l m : List Escrowed) → SameEscrow (z .value) l m → SameBut z (withEscrow s l) (withEscrow t m)
   unfolding withEscrow
-  with-entry r q e =
+  with-escrow l m e =
       record {
         identities = k .identities;
         running = k .running;
         heaps = k .heaps;
         shared = k .shared;
         log = k .log;
-        escrow = same-more (z .value) (k .escrow) e;
+        escrow = e;
       }
 
-  with-written : (o : ℕ) (v w : List ℕ) → length v ≡ length w → (z .heap (s .running) (caller s) ≡ false → v ≡ w)
-      → SameBut z (written s o v) (written t o w)
-  unfolding written
-  with-written o v w n e =
-      with-heap _ _ (simp length-sets (rw (← k .running) (k .heaps .sizes (s .running))))
-      (λ g. rw (← k .running, same-heap g, e g))
+-- ---- moves
 
-  -- ---- what an accepted call passed
-
-  accepted-create : (p i : ℕ) → refusal s (create p i) ≡ 0 → heapAt s p ≡ heapAt t p
-  unfolding refusal tests vacant
-  accepted-create p i r =
-      let empty = not-false (vacant s p) (failed 6 _ _ (passed 5 (ltb 15 p) _ r)) in
-      k .heaps .open-places p (rw (eqb-true (identityAt s p) 0 empty) (z .none-empty p))
-
-  known-attest : (o n : ℕ) → NoneTold z s t (attest o n) → beyond 256 o n ≡ false → ownPart s o n ≡ ownPart t o n
-  unfolding beyond
-  known-attest o n a e =
-      by-cases (z .heap (s .running) (caller s)) (λ g. a .attests g o n refl (ltb-false 256 (o + n) e)) (λ g. same-own o n g)
-
-  accepted-attest : (o n : ℕ) → NoneTold z s t (attest o n) → refusal s (attest o n) ≡ 0 → ownPart s o n ≡ ownPart t o n
-  unfolding refusal tests
-  accepted-attest o n a r = known-attest o n a (failed 10 _ _ (passed 3 (idle s) _ r))
-
-  accepted-protect : (i o n : ℕ) (d : Draw) → NoneTold z s t (protect i o n d) → refusal s (protect i o n d) ≡ 0
-      → SameEntry (z .value) (protected s i o n d) (protected t i o n d)
-  unfolding protected
-  accepted-protect i o n d a r =
-      record {
-        key = rw (same-caller, same-handle (z .value) n d (k .escrow));
-        size = same-size o n;
-        value = λ e.
-            by-cases (z .heap (s .running) (caller s)) (λ g. a .protects g i o n d refl e r) (λ g. same-own o n g);
-      }
-
-  -- ---- refusals
-
-  same-attest : (o n : ℕ) → NoneTold z s t (attest o n) → refusal s (attest o n) ≡ refusal t (attest o n)
-  unfolding refusal tests first
-  same-attest o n a =
-      by-cases (beyond 256 o n) (λ e. rw (same-idle, e)) (λ e. rw (same-idle, same-caller, known-attest o n a e, k .log))
-
-  pub same-refusal : {c d : Call} → AlikeCalls z s c d → NoneTold z s t c → refusal s c ≡ refusal t d
-  unfolding refusal tests
-  same-refusal (same-call (create p i)) a = rw (same-vacant p)
-  same-refusal (same-call (start p)) a = rw (same-vacant p, same-idle)
-  same-refusal (same-call yield) a = rw same-idle
-  same-refusal (same-call exit) a = rw same-idle
-  same-refusal (same-call (heapWrite p o v)) a = rw (same-idle, k .running)
-  same-refusal (same-call (heapRead p o n)) a = rw (same-idle, k .running)
-  same-refusal (same-call (sharedWrite o v)) a = refl
-  same-refusal (same-call (sharedRead o n)) a = refl
-  same-refusal (same-call (attest o n)) a = same-attest o n a
-  same-refusal (same-call (check i g v)) a = refl
-  same-refusal (same-call (protect i o n d)) a = rw (same-idle, same-full (z .value) n (k .escrow))
-  same-refusal (same-call (retrieve i o h)) a = let f = same-found i h in rw (same-idle, f .absent, f .size)
-  same-refusal (same-call report) a = refl
-  same-refusal (other-call p o v w g n) a = rw (same-idle, k .running, n)
-
--- ---- effects
+-- two moves that differ in secrets alone, made on s and on t
+pub data SameMove (z : Secrets) (s t : State) : Move → Move → Type 0 where
+  same-nothing : SameMove z s t nothing nothing
+  same-take : {p i : ℕ} → identityAt s p ≡ 0 → SameMove z s t (takes p i) (takes p i)
+  same-activate : {p : ℕ} → SameMove z s t (activates p) (activates p)
+  same-empty : {p q : ℕ} → p ≡ q → SameMove z s t (empties p) (empties q)
+  same-write : {p q o : ℕ} {v w : List ℕ} → p ≡ q → length v ≡ length w → (z .heap p (identityAt s p) ≡ false → v ≡ w)
+      → SameMove z s t (writes p o v) (writes q o w)
+  same-share : {o : ℕ} {v : List ℕ} → SameMove z s t (shares o v) (shares o v)
+  same-log : {e f : Logged} → e ≡ f → SameMove z s t (logs e) (logs f)
+  same-escrows : {e f : Escrowed} → SameEntry (z .value) e f → SameMove z s t (escrows e) (escrows f)
 
 module _ (z : Secrets) {s t : State} (k : SameBut z s t) where
-  same-exit : SameBut z (effect s exit) (effect t exit)
-  unfolding effect withHeap
-  same-exit =
-      let r = s .running in
+  emptied : (p : ℕ) → SameBut z (apply s (empties p)) (apply t (empties p))
+  unfolding apply withHeap
+  emptied p =
       let zeros =
-      set-pointwise (λ a b. a ≡ b) [] (s .heaps) (t .heaps) r r cleared cleared (k .heaps .places) refl (λ n. absurd (n refl))
+      set-pointwise (λ a b. a ≡ b) [] (s .heaps) (t .heaps) p p cleared cleared (k .heaps .places) refl (λ n. absurd (n refl))
       (λ _. refl) in
-      let both =
-      with-running z (with-identity z (with-heap z k cleared cleared refl (λ _. refl)) r 0 (rw (← k .running) zeros)) 16 in
-      subst (λ p. SameBut z (effect s exit) (withRunning (withIdentity (withHeap t cleared) p 0) 16)) (k .running) both
+      with-running z (with-identity z (with-heap z k p cleared cleared refl (λ _. refl)) p 0 zeros) 16
 
-  pub same-effect : {c d : Call} → AlikeCalls z s c d → NoneTold z s t c → refusal s c ≡ 0
-      → SameBut z (effect s c) (effect t d)
-  unfolding effect
-  same-effect (same-call (create p i)) a r = with-identity z k p i (accepted-create z k p i r)
-  same-effect (same-call (start p)) a r = with-running z k p
-  same-effect (same-call yield) a r = with-running z k 16
-  same-effect (same-call exit) a r = same-exit
-  same-effect (same-call (heapWrite p o v)) a r = with-written z k o v v refl (λ _. refl)
-  same-effect (same-call (heapRead p o n)) a r = k
-  same-effect (same-call (sharedWrite o v)) a r = with-shared z k (λ m. sets m o v)
-  same-effect (same-call (sharedRead o n)) a r = k
-  same-effect (same-call (attest o n)) a r = with-log z k _ _ (rw (same-caller z k, accepted-attest z k o n a r, k .log))
-  same-effect (same-call (check i g v)) a r = k
-  same-effect (same-call (protect i o n d)) a r = with-entry z k _ _ (accepted-protect z k i o n d a r)
-  same-effect (same-call (retrieve i o h)) a r =
-      let f = same-found z k i h in with-written z k o _ _ (f .size) (λ g. f .value (a .retrieves g i o h refl r))
-  same-effect (same-call report) a r = k
-  same-effect (other-call p o v w g n) a r = with-written z k o v w n (λ h. clash _ g h)
-
-  -- ---- answers
-
-  same-tag : (o n : ℕ) → ownPart s o n ≡ ownPart t o n
-      → tagOf (caller s) (ownPart s o n) ≡ tagOf (caller t) (ownPart t o n)
-  same-tag o n e = rw (same-caller z k, e)
-
-  pub same-number : {c d : Call} → AlikeCalls z s c d → NoneTold z s t c → refusal s c ≡ 0 → number s c ≡ number t d
-  unfolding number
-  same-number (same-call (create p i)) a r = refl
-  same-number (same-call (start p)) a r = refl
-  same-number (same-call yield) a r = refl
-  same-number (same-call exit) a r = refl
-  same-number (same-call (heapWrite p o v)) a r = refl
-  same-number (same-call (heapRead p o n)) a r = refl
-  same-number (same-call (sharedWrite o v)) a r = refl
-  same-number (same-call (sharedRead o n)) a r = refl
-  same-number (same-call (attest o n)) a r = ap (λ g. g .0) (same-tag o n (accepted-attest z k o n a r))
-  same-number (same-call (check i g v)) a r = rw (k .log)
-  same-number (same-call (protect i o n d)) a r = ap (λ h. h .0) (same-handle (z .value) n d (k .escrow))
-  same-number (same-call (retrieve i o h)) a r = same-found z k i h .size
-  same-number (same-call report) a r = rw (k .identities, k .log, same-count (z .value) (k .escrow))
-  same-number (other-call p o v w g n) a r = n
-
-  pub same-shown : {c d : Call} → AlikeCalls z s c d → z .heap (s .running) (caller s) ≡ false → shown s c ≡ shown t d
-  unfolding shown
-  same-shown (same-call (create p i)) g = refl
-  same-shown (same-call (start p)) g = refl
-  same-shown (same-call yield) g = refl
-  same-shown (same-call exit) g = refl
-  same-shown (same-call (heapWrite p o v)) g = refl
-  same-shown (same-call (heapRead p o n)) g = same-own z k o n g
-  same-shown (same-call (sharedWrite o v)) g = refl
-  same-shown (same-call (sharedRead o n)) g = rw (k .shared)
-  same-shown (same-call (attest o n)) g = refl
-  same-shown (same-call (check i h v)) g = refl
-  same-shown (same-call (protect i o n d)) g = refl
-  same-shown (same-call (retrieve i o h)) g = refl
-  same-shown (same-call report) g = refl
-  same-shown (other-call p o v w h n) g = refl
+  pub same-apply : {m n : Move} → SameMove z s t m n → SameBut z (apply s m) (apply t n)
+  unfolding apply withShared withLog
+  same-apply same-nothing = k
+  same-apply (same-take {p = p} e) = with-identity z k p _ (k .heaps .open-places p (rw e (z .none-empty p)))
+  same-apply same-activate = with-running z k _
+  same-apply (same-empty {p = p} e) = subst (λ q. SameBut z (apply s (empties p)) (apply t (empties q))) e (emptied p)
+  same-apply (same-write {p = p} {o = o} {v = v} {w = w} e n h) =
+      subst (λ q. SameBut z (apply s (writes p o v)) (apply t (writes q o w))) e
+      (with-heap z k p _ _ (simp length-sets (k .heaps .sizes p)) (λ g. rw (k .heaps .open-places p g, h g)))
+  same-apply (same-share {o = o} {v = v}) = rw (k .shared) (with-shared z k (sets (t .shared) o v))
+  same-apply (same-log {f = f} e) = rw (e, k .log) (with-log z k (withPair f (t .log)))
+  same-apply (same-escrows e) = with-escrow z k _ _ (same-more (z .value) (k .escrow) e)

@@ -14,7 +14,7 @@ use Rattle.ideal.specs.declared.BoxRecord.{BoxRecord}
 use Rattle.ideal.specs.declared.LogRow.{LogRow}
 use Rattle.ideal.specs.declared.Used.{Used}
 use Rattle.ideal.specs.State.{Logged, State, caller, part, ownPart, every}
-use Rattle.ideal.specs.Step.{paired, logged, full, withPair, withLog, first, idle, beyond, tests, refusal, effect, number, shown, refusedAnswer, refuse, accepted, settle, step}
+use Rattle.ideal.specs.Step.{paired, logged, full, withPair, withLog, first, idle, beyond, tests, refusal, move, apply, effect, number, shown, refusedAnswer, refuse, accepted, settle, step}
 use Rattle.ideal.specs.Tables.{Tables, logTable, rowsFrom, flat, usedBy, boxRecord, tables, stateOf}
 use Rattle.ideal.specs.Soundness.{hasIdentity}
 use Rattle.ideal.specs.Box.{Result, laid}
@@ -134,7 +134,7 @@ module _ (s : State) (k : Valid s) (o n used : ℕ) where
         sym (paired-logged i v (s .log) tags)
 
     attests : not (paired i v (s .log)) && full (s .log) n ≡ false → laid (settle 0 s c used) ≡ leaves 0 v
-    unfolding laid settle accepted effect number shown withPair withLog attested settled logRowsWith escrowRowsWith
+    unfolding laid settle accepted effect move apply number shown withPair withLog attested settled logRowsWith escrowRowsWith
     attests h =
         let size = own-size s o n k (busy s k runs) within in
         by-cases (paired i v (s .log))
@@ -170,7 +170,7 @@ check-laid : (s : State) (i : ℕ) (g : Tag) (v : List ℕ) (used : ℕ) → lai
       tables = tables s;
       answer = answerOf (checkOn (tables s .box) (tables s .logRows) (tables s .logValues) i g v) used [];
     }
-unfolding laid step refusal tests first settle refuse refusedAnswer accepted effect number shown checkOn answered tables boxRecord
+unfolding laid step refusal tests first settle refuse refusedAnswer accepted effect move apply number shown checkOn answered tables boxRecord
 check-laid s i g v used = by-cases (eqb i 0) (λ e. rw e) (λ e. rw (e, entries-back log-lawful (s .log)))
 
 pub check-step : (t : Tables) → Valid (stateOf t) → tables (stateOf t) ≡ t → (i : ℕ) (g : Tag) (v : List ℕ) (used : ℕ)

@@ -10,7 +10,8 @@ use Rattle.ideal.specs.State.{State, caller}
 use Rattle.ideal.specs.Step.{Outcome, refusal, refuse, accepted, settle, step, onReading, stepOn}
 use Rattle.ideal.specs.Box.{Element}
 use Rattle.ideal.proofs.Laid.{stepElement}
-use Rattle.ideal.proofs.TwoStates.{Secrets, SameBut, same-call, NoneTold, same-refusal, same-effect, same-number, same-shown}
+use Rattle.ideal.proofs.TwoStates.{Secrets, SameBut, same-call, NoneTold}
+use Rattle.ideal.proofs.ByKind.{same-in-both, same-effect}
 use Rattle.ideal.proofs.Secret.{cond-both}
 
 module _ (z : Secrets) where
@@ -26,11 +27,11 @@ module _ (z : Secrets) where
     both-settle : (n : ℕ) (c : Call) (u : ℕ) → NoneTold z s t c → refusal s c ≡ n → Both (settle n s c u) (settle n t c u)
     unfolding settle accepted
     both-settle zero c u a r =
-        let same = same-call c in
-        let number = same-number z k same a r in
-        let shown = same-shown z k same own in
+        let same = same-in-both z k (same-call c) a in
+        let number = same .answers r in
+        let shown = same .shows own in
         record {
-          state = same-effect z k same a r;
+          state = same-effect z k (same-call c) a r;
           answer = λ m. record { code = 0; number = number m; used = u; shown = shown m };
         }
     both-settle (suc n) c u a r = both-refuse (suc n) 0 u
@@ -39,7 +40,7 @@ module _ (z : Secrets) where
     unfolding onReading step
     both-reading (refused code number) h = both-refuse code number 0
     both-reading (whole c u) h =
-        let a = h c u refl in rw (← same-refusal z k (same-call c) a) (both-settle (refusal s c) c u a refl)
+        let a = h c u refl in rw (← same-in-both z k (same-call c) a .refuses) (both-settle (refusal s c) c u a refl)
 
     pub both-element : (e : Element)
         → (eqb (e .outputSize) 1024 ≡ true → (c : Call) (u : ℕ) → read (e .bytes) ≡ whole c u → NoneTold z s t c)

@@ -5,7 +5,7 @@ use mathlib.Core.Path.{_≡_, refl, sym, ap, _∙_}
 use mathlib.Core.List.{List, []}
 use Rattle.record.specs.Call.{Call, start, yield, report}
 use Rattle.ideal.specs.declared.BoxRecord.{BoxRecord}
-use Rattle.ideal.specs.Step.{first, idle, vacant, tests, refusal, withRunning, effect, number, shown, services, step}
+use Rattle.ideal.specs.Step.{first, idle, vacant, tests, refusal, withRunning, move, apply, effect, number, shown, services, step}
 use Rattle.ideal.specs.Tables.{Tables, takenMap, boxRecord, tables, stateOf}
 use Rattle.ideal.specs.Box.{laid}
 use Rattle.ideal.specs.History.{ones}
@@ -48,7 +48,7 @@ module _ (t : Tables) (k : Valid (stateOf t)) (e : tables (stateOf t) ≡ t) whe
         tables = replacePlaces t (startOn (t .box) p .held) (t .heaps);
         answer = answerOf (startOn (t .box) p .answer) used [];
       }
-  unfolding startOn refusal tests idle vacant effect number shown stateOf
+  unfolding startOn refusal tests idle vacant effect move apply number shown stateOf
   start-step p used =
       box-step (boxWithRunning (t .box) p) used (record { leaves = λ r. running-moves p; answers = λ r. refl; shows = λ r. refl })
 
@@ -57,7 +57,7 @@ module _ (t : Tables) (k : Valid (stateOf t)) (e : tables (stateOf t) ≡ t) whe
         tables = replacePlaces t (yieldOn (t .box) .held) (t .heaps);
         answer = answerOf (yieldOn (t .box) .answer) used [];
       }
-  unfolding yieldOn refusal tests idle effect number shown stateOf
+  unfolding yieldOn refusal tests idle effect move apply number shown stateOf
   yield-step used =
       box-step (boxWithRunning (t .box) 16) used (record { leaves = λ r. running-moves 16; answers = λ r. refl; shows = λ r. refl })
 
@@ -69,7 +69,7 @@ module _ (t : Tables) (k : Valid (stateOf t)) (e : tables (stateOf t) ≡ t) whe
 
   pub report-step : (used : ℕ) → laid (step (stateOf t) report used)
       ≡ record { tables = t; answer = answerOf (reportOn (t .box)) used [] }
-  unfolding reportOn refusal tests first settled answered effect number shown tables boxRecord stateOf
+  unfolding reportOn refusal tests first settled answered effect move apply number shown tables boxRecord stateOf
   report-step used =
       laid-step {n = counts (t .box)} used e
       (record {

@@ -7,7 +7,7 @@ use lib.ListN.{length, take, drop}
 use lib.Seq.{sets, take-at}
 use Rattle.record.specs.Call.{Call, sharedWrite, sharedRead}
 use Rattle.ideal.specs.State.{part}
-use Rattle.ideal.specs.Step.{tests, refusal, effect, number, shown, step}
+use Rattle.ideal.specs.Step.{tests, refusal, move, apply, effect, number, shown, step}
 use Rattle.ideal.specs.Tables.{Tables, tables, stateOf}
 use Rattle.ideal.specs.Box.{laid, outputAfter}
 use Rattle.ideal.specs.Valid.{Valid}
@@ -61,7 +61,7 @@ module _ (t : Tables) (used n : ℕ) (v output : List ℕ) where
 
 module _ (t : Tables) (k : Valid (stateOf t)) (e : tables (stateOf t) ≡ t) where
   shared-write-moves : (o : ℕ) (v : List ℕ) → Moves t (replaceShared t (sets (t .shared) o v)) (sharedWrite o v) (length v) []
-  unfolding effect number shown stateOf
+  unfolding effect move apply number shown stateOf
   shared-write-moves o v =
       record { leaves = λ r. with-shared t k e (sets (t .shared) o v); answers = λ r. refl; shows = λ r. refl }
 
@@ -77,7 +77,7 @@ module _ (t : Tables) (k : Valid (stateOf t)) (e : tables (stateOf t) ≡ t) whe
 
   pub shared-read-step : (o n : ℕ) (output : List ℕ) (used : ℕ)
       → Shows t (sharedRead o n) used (sharedReadAnswer o n) output (sharedReadOutput (t .shared) output o n)
-  unfolding sharedReadAnswer sharedReadOutput effect number shown refusal tests rangeRefusal stateOf
+  unfolding sharedReadAnswer sharedReadOutput effect move apply number shown refusal tests rangeRefusal stateOf
   shared-read-step o n output used =
       shows t used n (part (t .shared) o n) output (sharedRead o n) e
       (record { leaves = λ r. e; answers = λ r. refl; shows = λ r. refl })
