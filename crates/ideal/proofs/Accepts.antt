@@ -7,11 +7,12 @@ use Rattle.record.specs.Call.{Call}
 use Rattle.record.specs.Read.{whole, read}
 use Rattle.ideal.specs.State.{State}
 use Rattle.ideal.specs.Step.{Answer, refusal, refusedAnswer, accepted}
-use Rattle.ideal.specs.Tables.{Tables, stateOf}
+use Rattle.ideal.specs.Tables.{Tables, tables, stateOf}
 use Rattle.ideal.specs.Soundness.{sizesRight, sound}
 use Rattle.ideal.specs.Box.{Element, laid, unsound, callOn}
 use Rattle.ideal.specs.Layouts.{Sound}
 use Rattle.ideal.specs.Answers.{AcceptedAnswers}
+use Rattle.ideal.specs.Valid.{Valid}
 use Rattle.ideal.proofs.Bools.{by-cases, and-left, and-right}
 use Rattle.ideal.proofs.Laid.{stepElement, valid-sound, tables-state, call-is}
 use Rattle.ideal.proofs.Runs.{accepted-call, call-accepted}
@@ -35,14 +36,25 @@ sound-of t e z =
     (λ b. record { sizes = and-left (sizesRight t (e .outputSize)) _ b; box = and-right (sizesRight t (e .outputSize)) _ b })
     (λ b. absurd (let q : 15 ≡ 0 = rw b at z in omega arith))
 
-pub accepted-answers : AcceptedAnswers callOn
+-- an accepted call on any tables, and the state that they stand for
+pub record OnState (t : Tables) (c : Call) (used : ℕ) (a : Answer) : Type 0 where
+  pub valid : Valid (stateOf t)
+  pub back : tables (stateOf t) ≡ t
+  pub call : Accepted (stateOf t) c used a
+
+pub on-state : (t : Tables) (e : Element) (c : Call) (used : ℕ) → read (e .bytes) ≡ whole c used → callOn t e .answer .code ≡ 0
+    → OnState t c used (callOn t e .answer)
 unfolding laid
-accepted-answers t e c used y z =
+on-state t e c used y z =
     let ok = sound-of t e z in
     let s = stateOf t in
     let back = tables-state t (e .outputSize) ok in
     let k = valid-sound t (e .outputSize) ok in
     let q : callOn t e .answer ≡ stepElement s e .answer =
     ap (λ x. callOn x e .answer) (sym back) ∙ ap (λ x. x .answer) (call-is s e k) in
-    let a = accepted-of s e c used y (sym (ap (λ x. x .code) q) ∙ z) in
-    rw (q, a .is) (rw back at (answered s c used k (a .passes)))
+    record { valid = k; back = back; call = rw q (accepted-of s e c used y (sym (ap (λ x. x .code) q) ∙ z)) }
+
+pub accepted-answers : AcceptedAnswers callOn
+accepted-answers t e c used y z =
+    let o = on-state t e c used y z in
+    rw (o .call .is) (rw (o .back) at (answered (stateOf t) c used (o .valid) (o .call .passes)))
