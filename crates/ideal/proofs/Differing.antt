@@ -23,7 +23,7 @@ use Rattle.ideal.proofs.Hosted.{byte-is}
 use Rattle.ideal.proofs.OwnHeap.{own-bytes as own-heap}
 use Rattle.ideal.proofs.TwoStates.{SameBut, same-state, AlikeCalls, same-call, other-call}
 use Rattle.ideal.proofs.ByKind.{same-effect}
-use Rattle.ideal.proofs.TwoRuns.{Pairing, ended, both, by-index}
+use Rattle.ideal.proofs.TwoRuns.{Indexed, ended, both}
 use Rattle.ideal.proofs.Secret.{held, Disclosed, none-told, runs-below, protect-fits}
 
 -- ---- a list of calls, each read back from its record and accepted
@@ -158,14 +158,14 @@ alike-at (other-call p o v w g n) r r′ =
       outputSize = refl;
     })
 
-pairing : {s t : State} {cs ds : List Call} → SameBut (held group) s t → Valid s → Valid t → Accepted s cs → Accepted t ds
-    → Steps s t cs ds → Pairing callOn group (tables s) (tables t) (map element cs) (map element ds)
-pairing k v w none none end = ended
-pairing k v w (call r p a) (call r′ p′ b) (step {cs = cs} {ds = ds} l m rest) =
+indexed : {s t : State} {cs ds : List Call} → SameBut (held group) s t → Valid s → Valid t → Accepted s cs → Accepted t ds
+    → Steps s t cs ds → Indexed callOn group (tables s) (tables t) (map element cs) (map element ds)
+indexed k v w none none end = ended callOn group
+indexed k v w (call r p a) (call r′ p′ b) (step {cs = cs} {ds = ds} l m rest) =
     let next = same-effect (held group) k l (none-told group (disclosed m)) p in
-    both (alike-at l r r′) (premise-at k v w r p (disclosed m))
-    (subst₂ (λ x y. Pairing callOn group x y (map element cs) (map element ds)) (sym (next-tables v r p))
-    (sym (next-tables w r′ p′)) (pairing next (valid-effect _ _ v p) (valid-effect _ _ w p′) a b rest))
+    both callOn group (alike-at l r r′) (premise-at k v w r p (disclosed m))
+    (subst₂ (λ x y. Indexed callOn group x y (map element cs) (map element ds)) (sym (next-tables v r p))
+    (sym (next-tables w r′ p′)) (indexed next (valid-effect _ _ v p) (valid-effect _ _ w p′) a b rest))
 
 -- ---- the witness
 
@@ -204,17 +204,17 @@ all-accepted b k l =
     ap (λ t. callOn (tablesFrom callOn t (take k (elements b))) (elementAt (elements b) k) .answer .code) fresh-tables
     ∙ codes valid-fresh (computed b b .accepts) k l
 
-paired-elements : (a b : ℕ) → Pairing callOn group freshTables freshTables (elements a) (elements b)
+indexed-elements : (a b : ℕ) → Indexed callOn group freshTables freshTables (elements a) (elements b)
 unfolding elements
-paired-elements a b =
+indexed-elements a b =
     rw fresh-tables
-    (pairing (same-state (held group) fresh) valid-fresh valid-fresh (computed a b .accepts) (computed b a .accepts)
+    (indexed (same-state (held group) fresh) valid-fresh valid-fresh (computed a b .accepts) (computed b a .accepts)
     (computed a b .steps))
 
 pub premises-can-be-met : PremisesCanBeMet callOn
 unfolding tablesBefore tablesAfter
 premises-can-be-met =
-    let i = by-index callOn group (paired-elements 66 67) in
+    let i = indexed-elements 66 67 in
     record {
       alike = record { long = i .long; alike = i .alike };
       premise = i .premise;

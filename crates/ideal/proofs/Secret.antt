@@ -15,7 +15,7 @@ use Rattle.ideal.specs.Step.{Outcome, refusal, tests, idle, beyond, prot
 use Rattle.ideal.specs.Tables.{Tables, escrowTable, entryOf, rowsFrom, rowsOf, boxRecord, tables, freshTables}
 use Rattle.ideal.specs.Box.{Element, laid, callOn}
 use Rattle.ideal.specs.Refusals.{ownBytes}
-use Rattle.ideal.specs.Secrecy.{inside, groupRuns, groupToGroup, AlikeAt, same, other-bytes, EqualAt, AgreeOutside, PremiseAt, Secrecy}
+use Rattle.ideal.specs.Secrecy.{inside, groupRuns, groupToGroup, AlikeAt, same, other-bytes, EqualAt, AgreeOutside, PremiseAt, noneExempt, Secrecy}
 use Rattle.ideal.proofs.Bools.{by-cases, and-false, and-other, clash}
 use Rattle.ideal.proofs.Chain.{failed, passed}
 use Rattle.ideal.specs.Valid.{Valid}
@@ -68,13 +68,13 @@ none-told G p =
 -- where the first run stood at s
 record Both (G : ℕ → Bool) (s : State) (o p : Outcome) : Type 0 where
   state : SameBut (held G) (o .state) (p .state)
-  answer : EqualAt G (tables s) (o .answer) (p .answer)
+  answer : EqualAt G false (tables s) (o .answer) (p .answer)
 
 module _ (G : ℕ → Bool) {s t : State} (k : SameBut (held G) s t) where
   both-refuse : (code number used : ℕ) → Both G s (refuse s code number used) (refuse t code number used)
   unfolding refuse refusedAnswer
   both-refuse code number used =
-      record { state = k; answer = record { code = refl; number = refl; used = refl; shown = λ _. refl } }
+      record { state = k; answer = record { code = λ _. refl; number = λ _. refl; used = refl; shown = λ _. refl } }
 
   both-settle : (n : ℕ) {c d : Call} (u : ℕ) → AlikeCalls (held G) s c d → Disclosed G s t c → refusal s c ≡ n
       → Both G s (settle n s c u) (settle n t d u)
@@ -83,7 +83,7 @@ module _ (G : ℕ → Bool) {s t : State} (k : SameBut (held G) s t) where
       let c = same-in-both (held G) k a (none-told G p) in
       record {
         state = same-effect (held G) k a (none-told G p) r;
-        answer = record { code = refl; number = c .answers r; used = refl; shown = c .shows };
+        answer = record { code = λ _. refl; number = λ _. c .answers r; used = refl; shown = c .shows };
       }
   both-settle (suc n) u a p r = both-refuse (suc n) 0 u
 
@@ -206,7 +206,7 @@ record Related (G : ℕ → Bool) (x y : Tables) : Type 0 where
   same : SameBut (held G) first second
 
 related-step : (G : ℕ → Bool) (s t : State) (e f : Element) → Valid s → Valid t → SameBut (held G) s t → AlikeAt G (tables s) e f
-    → PremiseAt callOn G (tables s) (tables t) e → Stepped callOn G (Related G) (tables s) (tables t) e f
+    → PremiseAt callOn G (tables s) (tables t) e → Stepped noneExempt callOn G (Related G) (tables s) (tables t) e f
 unfolding laid
 related-step G s t e f v w k a p =
     let b = both-element G k v w e p f a in
@@ -224,12 +224,12 @@ related-step G s t e f v w k a p =
           };
     }
 
-preserved : (G : ℕ → Bool) → Preserved callOn G (Related G)
+preserved : (G : ℕ → Bool) → Preserved noneExempt callOn G (Related G)
 preserved G =
     record {
       agrees = λ r. subst₂ (λ x y. AgreeOutside G x y) (r .is₁) (r .is₂) (agree-outside G (r .same) (r .valid₁) (r .valid₂));
       both = λ {x} {y} {e} {f} r.
-          subst₂ (λ x y. AlikeAt G x e f → PremiseAt callOn G x y e → Stepped callOn G (Related G) x y e f) (r .is₁) (r .is₂)
+          subst₂ (λ x y. AlikeAt G x e f → PremiseAt callOn G x y e → Stepped noneExempt callOn G (Related G) x y e f) (r .is₁) (r .is₂)
           (related-step G (r .first) (r .second) e f (r .valid₁) (r .valid₂) (r .same));
     }
 
@@ -247,4 +247,4 @@ related-fresh G =
 
 -- demand 3
 pub secrecy : Secrecy callOn
-secrecy = secrecy-of callOn Related preserved related-fresh
+secrecy G = secrecy-of noneExempt callOn G (preserved G) (related-fresh G)
