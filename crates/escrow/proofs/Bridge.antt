@@ -11,8 +11,8 @@ use Rattle.record.specs.Call.{protect}
 use Rattle.ideal.specs.declared.BoxRecord.{BoxRecord}
 use Rattle.ideal.specs.declared.EscrowRow.{EscrowRow}
 use Rattle.ideal.specs.declared.Used.{Used}
-use Rattle.ideal.specs.State.{State, EscrowKey, Escrowed, part, ownPart, heapAt}
-use Rattle.ideal.specs.Step.{freeHandle, full, _then_, accept, first, idle, beyond, tests, refusal, withEscrow, protected, move, apply, effect, number, shown, step}
+use Rattle.ideal.specs.State.{State, escrows, EscrowKey, Escrowed, part, ownPart, heapAt}
+use Rattle.ideal.specs.Step.{freeHandle, full, _then_, accept, first, idle, beyond, tests, refusal, protected, move, apply, effect, number, shown, step}
 use Rattle.ideal.specs.Tables.{Tables, escrowTable, usedBy, boxRecord, tables, stateOf}
 use Rattle.ideal.specs.Box.{Result, laid}
 use Rattle.ideal.proofs.Chain.{failed, passed}
@@ -96,8 +96,8 @@ withMore t k v = replaceEscrow t (moreEscrow (t .box) (t .escrowValues) k v)
 
 -- one entry more
 added : (s : State) (x : Escrowed) → Room (usedBy (s .escrow)) (length (x .value))
-    → tables (withEscrow s (s .escrow ++ (x ∷ []))) ≡ withMore (tables s) (x .key) (x .value)
-unfolding tables boxRecord withEscrow moreEscrow logRowsWith escrowRowsWith
+    → tables (apply s (escrows x)) ≡ withMore (tables s) (x .key) (x .value)
+unfolding tables boxRecord apply moreEscrow logRowsWith escrowRowsWith
 added s x room = λ j.
     record {
       box =

@@ -12,7 +12,7 @@ use Rattle.record.specs.declared.Draw.{Draw}
 use Rattle.record.specs.Call.{Call, create, start, yield, exit, heapWrite, heapRead, sharedWrite, sharedRead, attest, check, protect, retrieve, report}
 use Rattle.record.specs.Write.{filled}
 use Rattle.ideal.specs.State.{State, writes, identityAt, caller, ownPart, any}
-use Rattle.ideal.specs.Step.{found, valueIn, pairOf, idle, vacant, beyond, first, tests, refusal, protected, move, apply, withHeap, effect, number, shown, accepted}
+use Rattle.ideal.specs.Step.{found, valueIn, pairOf, idle, vacant, beyond, first, tests, refusal, protected, move, apply, effect, number, shown, accepted}
 use Rattle.ideal.specs.Tables.{tables, boxRecord}
 use Rattle.ideal.specs.Refusals.{ownBytes, oneOf}
 use Rattle.ideal.specs.Answers.{plainNumber, Answered}
@@ -65,7 +65,7 @@ valid-effect s c k r = valid-apply k (does s c k r)
 
 retrieved : (s : State) (i o : ℕ) (a : Handle) → Valid s → refusal s (retrieve i o a) ≡ 0
     → ownBytes (tables (effect s (retrieve i o a))) o (number s (retrieve i o a)) ≡ valueIn (found s i a)
-unfolding refusal tests beyond effect move apply number withHeap
+unfolding refusal tests beyond effect move apply number
 retrieved s i o a k r =
     let v = valueIn (found s i a) in
     let g = busy s k (failed 3 _ _ r) in

@@ -12,7 +12,7 @@ use Rattle.record.specs.declared.Draw.{Draw}
 use Rattle.record.specs.Call.{Call, protect}
 use Rattle.record.specs.Read.{whole}
 use Rattle.ideal.specs.State.{Escrowed, State, Move, fresh, caller, any, sameBytes}
-use Rattle.ideal.specs.Step.{isEscrowed, found, hasHandle, protected, refusal, move, withHeap, withRunning, withIdentity, withShared, withLog, withEscrow, apply, effect, number}
+use Rattle.ideal.specs.Step.{isEscrowed, found, hasHandle, protected, refusal, move, apply, effect, number}
 use Rattle.ideal.specs.Soundness.{sameHandle}
 use Rattle.ideal.specs.Box.{Element, callOn, elementAt}
 use Rattle.ideal.specs.Accuracy.{Earlier, ProtectsAt, ProtectedBefore}
@@ -34,7 +34,7 @@ entry : (s : State) (c : Call) → Protects s c → Escrowed
 entry s c (protects {i = i} {o = o} {n = n} {d = d} a) = protected s i o n d
 
 others-of : {s : State} {c : Call} {m : Move} → Does s c m → (apply s m .escrow ≡ s .escrow) ⊎ Protects s c
-unfolding apply withHeap withRunning withIdentity withShared withLog
+unfolding apply
 others-of does-nothing = inl refl
 others-of (does-take h z n) = inl refl
 others-of (does-activate h n) = inl refl
@@ -50,7 +50,7 @@ others s c k r = others-of (does s c k r)
 
 more : (test : Escrowed → Bool) (s : State) (c : Call) (a : Protects s c) → Valid s
     → any test (effect s c .escrow) ≡ any test (s .escrow) || test (entry s c a)
-unfolding entry effect move apply withEscrow
+unfolding entry effect move apply
 more test s c (protects a) valid = rw (any-append test (s .escrow), any-one test)
 
 -- the entry is under this handle, from this source for this recipient, and has this value

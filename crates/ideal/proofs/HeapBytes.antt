@@ -7,8 +7,8 @@ use native.Mathlib.Omega.{arith}
 use native.Mathlib.Nat.{zero-add}
 use lib.ListN.{length, getD, set, drop-of-length-le}
 use lib.Seq.{sets, sets-eq}
-use Rattle.ideal.specs.State.{writes, part, ownPart}
-use Rattle.ideal.specs.Step.{withHeap, withShared, apply}
+use Rattle.ideal.specs.State.{writes, shares, part, ownPart}
+use Rattle.ideal.specs.Step.{withPlaces, apply}
 use Rattle.ideal.specs.Valid.{Valid}
 use Rattle.ideal.specs.Tables.{Tables, flat, boxRecord, tables, stateOf}
 use Rattle.ideal.proofs.Heaps.{Sized}
@@ -71,13 +71,13 @@ module _ (t : Tables) (k : Valid (stateOf t)) (e : tables (stateOf t) ≡ t) whe
       sym (flat-part (stateOf t .heaps) (t .box .running) o n heaps-sized (omega (arith, k .heaps)) f)
       ∙ ap (λ l. part l (256 * t .box .running + o) n) heaps-flat
 
-  pub with-heap : (h : List ℕ)
-      → tables (withHeap (stateOf t) (t .box .running) h) ≡ replaceHeaps t (flat (set (stateOf t .heaps) (t .box .running) h))
-  unfolding tables boxRecord withHeap stateOf
-  with-heap h = λ i.
+  with-heaps : (hs : List (List ℕ))
+      → tables (withPlaces (stateOf t) (t .box .identities) (t .box .running) hs) ≡ replaceHeaps t (flat hs)
+  unfolding tables boxRecord stateOf
+  with-heaps hs = λ i.
       record {
         box = e i .box;
-        heaps = flat (set (stateOf t .heaps) (t .box .running) h);
+        heaps = flat hs;
         shared = t .shared;
         logRows = e i .logRows;
         logValues = e i .logValues;
@@ -90,7 +90,7 @@ module _ (t : Tables) (k : Valid (stateOf t)) (e : tables (stateOf t) ≡ t) whe
       → tables (apply (stateOf t) (writes (t .box .running) o v)) ≡ replaceHeaps t (sets (t .heaps) (256 * t .box .running + o) v)
   unfolding apply stateOf
   written-bytes o v h f =
-      with-heap _
+      with-heaps _
       ∙ ap (replaceHeaps t)
       (flat-sets (stateOf t .heaps) (t .box .running) o v heaps-sized (omega (arith, k .heaps)) f
       ∙ ap (λ l. sets l (256 * t .box .running + o) v) heaps-flat)
@@ -102,13 +102,13 @@ module _ (t : Tables) (k : Valid (stateOf t)) (e : tables (stateOf t) ≡ t) whe
       flat-set (stateOf t .heaps) heaps-sized (t .box .running) v (omega (arith, k .heaps)) n
       ∙ ap (λ l. sets l (256 * t .box .running) v) heaps-flat
 
-  pub with-shared : (m : List ℕ) → tables (withShared (stateOf t) m) ≡ replaceShared t m
-  unfolding tables boxRecord withShared stateOf
-  with-shared m = λ i.
+  pub shared-bytes : (o : ℕ) (v : List ℕ) → tables (apply (stateOf t) (shares o v)) ≡ replaceShared t (sets (t .shared) o v)
+  unfolding apply tables boxRecord stateOf
+  shared-bytes o v = λ i.
       record {
         box = e i .box;
         heaps = e i .heaps;
-        shared = m;
+        shared = sets (t .shared) o v;
         logRows = e i .logRows;
         logValues = e i .logValues;
         escrowRows = e i .escrowRows;

@@ -11,7 +11,7 @@ use borrow.Author.Tests.{ltb-false, eqb-true, eqb-false, eq-eqb, ne-eqb, le-leb}
 use Rattle.fnv.specs.Fnv.{tagOf}
 use Rattle.record.specs.Call.{Call}
 use Rattle.ideal.specs.State.{Entry, Logged, Escrowed, State, Move, cleared, fresh, heapAt, caller, ownPart, any, every, sameBytes, bytesUsed}
-use Rattle.ideal.specs.Step.{isPair, paired, pairOf, full, withPair, hasHandle, withHeap, withRunning, withIdentity, withShared, withLog, withEscrow, protected, apply}
+use Rattle.ideal.specs.Step.{isPair, paired, pairOf, full, withPair, hasHandle, protected, apply}
 use Rattle.ideal.specs.Soundness.{differ, samePair, sameHandle, rightTag}
 use Rattle.ideal.proofs.Bools.{by-cases, and-true, and-other, or-false-left, or-false-right, not-is}
 use Rattle.ideal.proofs.Lists.{bytes-more, every-more, differ-more}
@@ -199,7 +199,7 @@ escrow-more l e n k s m f g u =
 -- ---- each move
 
 pub valid-apply : {s : State} {c : Call} {m : Move} → Valid s → Does s c m → Valid (apply s m)
-unfolding apply withHeap withRunning withIdentity withShared withLog withEscrow protected goodEscrowed
+unfolding apply protected goodEscrowed
 valid-apply k does-nothing = k
 valid-apply k (does-take h z n) = valid _ (created (places-of k) _ _ h n) (k .shared) (log-of k) (escrow-of k)
 valid-apply k (does-activate h n) = valid _ (now-runs (places-of k) _ h n) (k .shared) (log-of k) (escrow-of k)

@@ -10,7 +10,7 @@ use Rattle.fnv.specs.declared.Tag.{Tag}
 use Rattle.fnv.specs.Fnv.{tagOf}
 use Rattle.record.specs.Call.{Call, attest}
 use Rattle.ideal.specs.State.{Logged, State, Move, fresh, caller, ownPart, any, every}
-use Rattle.ideal.specs.Step.{isPair, isLogged, paired, logged, pairOf, withPair, refusal, move, withHeap, withRunning, withIdentity, withShared, withLog, withEscrow, apply, effect, number}
+use Rattle.ideal.specs.Step.{isPair, isLogged, paired, logged, pairOf, withPair, refusal, move, apply, effect, number}
 use Rattle.ideal.specs.Soundness.{rightTag}
 use Rattle.ideal.specs.Box.{Element, callOn, elementAt}
 use Rattle.ideal.specs.Accuracy.{Earlier, LogsAt}
@@ -29,7 +29,7 @@ entry : (s : State) (c : Call) → Attests s c → Logged
 entry s c (attests {o = o} {n = n} a) = pairOf (caller s) (ownPart s o n)
 
 others-of : {s : State} {c : Call} {m : Move} → Does s c m → (apply s m .log ≡ s .log) ⊎ Attests s c
-unfolding apply withHeap withRunning withIdentity withShared withEscrow
+unfolding apply
 others-of does-nothing = inl refl
 others-of (does-take h z n) = inl refl
 others-of (does-activate h n) = inl refl
@@ -93,7 +93,7 @@ module _ (i : ℕ) (g : Tag) (v : List ℕ) where
 
   more : (s : State) (c : Call) (a : Attests s c) → Valid s
       → any (isLogged i g v) (effect s c .log) ≡ any (isLogged i g v) (s .log) || isLogged i g v (entry s c a)
-  unfolding entry effect move apply withLog withPair
+  unfolding entry effect move apply withPair
   more s c (attests {o = o} {n = n} a) valid =
       by-cases (paired (caller s) (ownPart s o n) (s .log))
       (λ e. rw e (again (caller s) (ownPart s o n) (s .log) (valid .log-good) e))

@@ -7,7 +7,7 @@ use native.Mathlib.Nat.{zero-add, suc-add, add-suc}
 use lib.ListN.{length, getD, set, length-set}
 use lib.Seq.{sets, set-append-left, getD-set-same}
 use Rattle.ideal.specs.State.{State, writes, heapAt, ownPart}
-use Rattle.ideal.specs.Step.{withHeap, apply}
+use Rattle.ideal.specs.Step.{apply}
 use Rattle.ideal.specs.Tables.{tables, boxRecord, flat}
 use Rattle.ideal.specs.Refusals.{ownBytes}
 use Rattle.ideal.specs.Accuracy.{withOwnBytes}
@@ -55,11 +55,11 @@ module _ (s : State) (valid : Valid s) (runs : s .running < 16) where
   own-bytes o n f = flat-part (s .heaps) (s .running) o n sizes (omega (arith, valid .heaps)) f
 
   pub own-written : (o : ℕ) (v : List ℕ) → o + length v ≤ 256 → tables (apply s (writes (s .running) o v)) ≡ withOwnBytes (tables s) o v
-  unfolding tables boxRecord apply withHeap withOwnBytes
+  unfolding tables boxRecord apply withOwnBytes
   own-written o v f = rw (flat-sets (s .heaps) (s .running) o v sizes (omega (arith, valid .heaps)) f)
 
   pub written-stands : (o : ℕ) (v : List ℕ) → o + length v ≤ 256 → ownPart (apply s (writes (s .running) o v)) o (length v) ≡ v
-  unfolding apply withHeap ownPart
+  unfolding apply ownPart
   written-stands o v f =
       rw (getD-set-same (s .heaps) (s .running) (sets (heapAt s (s .running)) o v) [] (omega (arith, valid .heaps)))
       (part-sets (heapAt s (s .running)) o v (omega (arith, valid .sizes (s .running) runs)))

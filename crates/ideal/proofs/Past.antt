@@ -11,7 +11,7 @@ use lib.Dec.{eqb}
 use borrow.Author.Tests.{eqb-true, ne-eqb}
 use Rattle.record.specs.Call.{Call}
 use Rattle.ideal.specs.State.{State, Move, cleared, fresh, identityAt, heapAt}
-use Rattle.ideal.specs.Step.{isPair, paired, withPair, withHeap, withRunning, withIdentity, withShared, withLog, withEscrow, apply}
+use Rattle.ideal.specs.Step.{isPair, paired, withPair, apply}
 use Rattle.ideal.specs.History.{runs, holder, within, byteAt, isAttested, pairs, protects}
 use Rattle.ideal.specs.Valid.{Valid}
 use Rattle.ideal.proofs.Bools.{by-cases}
@@ -48,7 +48,7 @@ fresh-past =
 
 pub past-kept : {s : State} {past : List Move} {c : Call} {m : Move} → Valid s → StateAsPast s past → Does s c m
     → StateAsPast (apply s m) (m ∷ past)
-unfolding apply withHeap withRunning withIdentity withShared withLog withEscrow withPair paired isPair isAttested runs holder byteAt pairs protects
+unfolding apply withPair paired isPair isAttested runs holder byteAt pairs protects
 past-kept k h does-nothing =
     record {
       running = h .running;

@@ -13,7 +13,7 @@ use Rattle.record.specs.declared.Handle.{Handle}
 use Rattle.record.specs.Call.{Call, protect, retrieve}
 use Rattle.record.specs.Read.{whole, read}
 use Rattle.ideal.specs.State.{Escrowed, State, caller, ownPart, writes}
-use Rattle.ideal.specs.Step.{found, absent, valueIn, idle, beyond, tests, first, refusal, move, withHeap, apply, effect, number}
+use Rattle.ideal.specs.Step.{found, absent, valueIn, idle, beyond, tests, first, refusal, move, apply, effect, number}
 use Rattle.ideal.specs.Tables.{tables}
 use Rattle.ideal.specs.Box.{Element, callOn, elementAt, tablesBefore, answerAt}
 use Rattle.ideal.specs.Refusals.{ownBytes}
@@ -104,7 +104,7 @@ module _ (es : List Element) (k i o : ℕ) (h : Handle) (used : ℕ)
 
   hands : (v : List ℕ) → Accepted s (elementAt es k) c used → Ready s i o h → Finds s i h v → o + length v ≤ 256
       → HandsOut callOn es o v k
-  unfolding apply withHeap
+  unfolding apply
   hands v a r f fits =
       let w = busy s (valid-before es k) (r .runs) in
       let q : stateBefore es (suc k) ≡ apply s (writes (s .running) o v) = state-after es k c used a ∙ retrieve-effect s i o h v f in

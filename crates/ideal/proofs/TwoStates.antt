@@ -13,7 +13,7 @@ use Rattle.record.specs.declared.Handle.{Handle}
 use Rattle.record.specs.declared.Draw.{Draw}
 use Rattle.record.specs.Call.{Call, heapWrite, attest, protect, retrieve}
 use Rattle.ideal.specs.State.{EscrowKey, Logged, Escrowed, State, Move, nothing, takes, activates, empties, writes, shares, logs, escrows, cleared, identityAt, heapAt, caller, part, ownPart}
-use Rattle.ideal.specs.Step.{found, idle, vacant, refusal, withPair, protected, withHeap, withRunning, withIdentity, withShared, withLog, withEscrow, apply}
+use Rattle.ideal.specs.Step.{found, idle, vacant, refusal, withPair, protected, withPlaces, withCommon, apply}
 use Rattle.ideal.proofs.Bools.{by-cases}
 use Rattle.ideal.proofs.TwoEscrows.{SameEntry, SameEscrow, SameFound, same-escrow, same-more, same-find}
 
@@ -114,98 +114,6 @@ module _ (z : Secrets) {s t : State} (k : SameBut z s t) where
   unfolding ownPart
   same-own o n g = rw (← k .running, same-heap g)
 
-  -- ---- the parts of a move
-
-  with-heap : (i : ℕ) (x y : List ℕ) → length x ≡ length y → (z .heap i (identityAt s i) ≡ false → x ≡ y)
-      → SameBut z (withHeap s i x) (withHeap t i y)
-  unfolding withHeap
-  with-heap i x y n e =
-      record {
-        identities = k .identities;
-        running = k .running;
-        heaps =
-            record {
-              places = length-set (s .heaps) i x ∙ k .heaps .places ∙ sym (length-set (t .heaps) i y);
-              sizes = λ p.
-                  set-pointwise (λ a b. length a ≡ length b) [] (s .heaps) (t .heaps) i p x y (k .heaps .places) refl
-                  (λ _. k .heaps .sizes p) (λ _. n);
-              open-places = λ p g.
-                  set-pointwise (λ a b. a ≡ b) [] (s .heaps) (t .heaps) i p x y (k .heaps .places) refl
-                  (λ _. k .heaps .open-places p g) (λ q. e (rw (← q) g));
-            };
-        shared = k .shared;
-        log = k .log;
-        escrow = k .escrow;
-      }
-
-  with-running : (p : ℕ) → SameBut z (withRunning s p) (withRunning t p)
-  unfolding withRunning
-  with-running p =
-      record {
-        identities = k .identities;
-        running = refl;
-        heaps = k .heaps;
-        shared = k .shared;
-        log = k .log;
-        escrow = k .escrow;
-      }
-
-  -- the place's new identity may have an open heap, so its heaps must agree
-  with-identity : (p i : ℕ) → heapAt s p ≡ heapAt t p → SameBut z (withIdentity s p i) (withIdentity t p i)
-  unfolding withIdentity
-  with-identity p i h =
-      record {
-        identities = ap (λ l. set l p i) (k .identities);
-        running = k .running;
-        heaps =
-            record {
-              places = k .heaps .places;
-              sizes = k .heaps .sizes;
-              open-places = λ q g.
-                  by-cases (eqb q p) (λ e. rw (eqb-true q p e) h)
-                  (λ e. k .heaps .open-places q (rw (getD-set-other (s .identities) p q i 0 (eqb-false q p e)) at g));
-            };
-        shared = k .shared;
-        log = k .log;
-        escrow = k .escrow;
-      }
-
-  with-shared : (m : List ℕ) → SameBut z (withShared s m) (withShared t m)
-  unfolding withShared
-  with-shared m =
-      record {
-        identities = k .identities;
-        running = k .running;
-        heaps = k .heaps;
-        shared = refl;
-        log = k .log;
-        escrow = k .escrow;
-      }
-
-  with-log : (l : List Logged) → SameBut z (withLog s l) (withLog t l)
-  unfolding withLog
-  with-log l =
-      record {
-        identities = k .identities;
-        running = k .running;
-        heaps = k .heaps;
-        shared = k .shared;
-        log = refl;
-        escrow = k .escrow;
-      }
-
-  with-escrow : (l m : List Escrowed) → SameEscrow (z .value) l m → SameBut z (withEscrow s l) (withEscrow t m)
-  unfolding withEscrow
-  with-escrow l m e =
-      record {
-        identities = k .identities;
-        running = k .running;
-        heaps = k .heaps;
-        shared = k .shared;
-        log = k .log;
-        escrow = e;
-      }
-
 -- ---- moves
 
 -- two moves that differ in secrets alone, made on s and on t
@@ -220,24 +128,64 @@ pub data SameMove (z : Secrets) (s t : State) : Move → Move → Type 0 where
   same-log : {e f : Logged} → e ≡ f → SameMove z s t (logs e) (logs f)
   same-escrows : {e f : Escrowed} → SameEntry (z .value) e f → SameMove z s t (escrows e) (escrows f)
 
+-- a heap is replaced in both
+set-heaps : (z : Secrets) (is : List ℕ) (hs ks : List (List ℕ)) (i : ℕ) (x y : List ℕ) → SameHeaps z is hs ks
+    → length x ≡ length y → (z .heap i (getD is i 0) ≡ false → x ≡ y) → SameHeaps z is (set hs i x) (set ks i y)
+set-heaps z is hs ks i x y h n e =
+    record {
+      places = length-set hs i x ∙ h .places ∙ sym (length-set ks i y);
+      sizes = λ p.
+          set-pointwise (λ a b. length a ≡ length b) [] hs ks i p x y (h .places) refl (λ _. h .sizes p) (λ _. n);
+      open-places = λ p g.
+          set-pointwise (λ a b. a ≡ b) [] hs ks i p x y (h .places) refl (λ _. h .open-places p g) (λ q. e (rw (← q) g));
+    }
+
+-- a place gets another identity: it may have an open heap, so its heaps must agree
+set-identity : (z : Secrets) (is : List ℕ) (hs ks : List (List ℕ)) (p i : ℕ) → SameHeaps z is hs ks
+    → getD hs p [] ≡ getD ks p [] → SameHeaps z (set is p i) hs ks
+set-identity z is hs ks p i h e =
+    record {
+      places = h .places;
+      sizes = h .sizes;
+      open-places = λ q g.
+          by-cases (eqb q p) (λ a. rw (eqb-true q p a) e)
+          (λ a. h .open-places q (rw (getD-set-other is p q i 0 (eqb-false q p a)) at g));
+    }
+
+emptied : (z : Secrets) (is : List ℕ) (hs ks : List (List ℕ)) (p : ℕ) → SameHeaps z is hs ks
+    → SameHeaps z (set is p 0) (set hs p cleared) (set ks p cleared)
+emptied z is hs ks p h =
+    set-identity z is (set hs p cleared) (set ks p cleared) p 0
+    (set-heaps z is hs ks p cleared cleared h refl (λ _. refl))
+    (set-pointwise (λ a b. a ≡ b) [] hs ks p p cleared cleared (h .places) refl (λ n. absurd (n refl)) (λ _. refl))
+
 module _ (z : Secrets) {s t : State} (k : SameBut z s t) where
-  emptied : (p : ℕ) → SameBut z (apply s (empties p)) (apply t (empties p))
-  unfolding apply withHeap
-  emptied p =
-      let zeros =
-      set-pointwise (λ a b. a ≡ b) [] (s .heaps) (t .heaps) p p cleared cleared (k .heaps .places) refl (λ n. absurd (n refl))
-      (λ _. refl) in
-      with-running z (with-identity z (with-heap z k p cleared cleared refl (λ _. refl)) p 0 zeros) 16
+  with-places : {is js : List ℕ} {p q : ℕ} {hs ks : List (List ℕ)} → is ≡ js → p ≡ q → SameHeaps z is hs ks
+      → SameBut z (withPlaces s is p hs) (withPlaces t js q ks)
+  with-places i p h =
+      record { identities = i; running = p; heaps = h; shared = k .shared; log = k .log; escrow = k .escrow }
+
+  with-common : {m n : List ℕ} {l j : List Logged} {es fs : List Escrowed} → m ≡ n → l ≡ j → SameEscrow (z .value) es fs
+      → SameBut z (withCommon s m l es) (withCommon t n j fs)
+  with-common m l e =
+      record { identities = k .identities; running = k .running; heaps = k .heaps; shared = m; log = l; escrow = e }
 
   pub same-apply : {m n : Move} → SameMove z s t m n → SameBut z (apply s m) (apply t n)
-  unfolding apply withShared withLog
+  unfolding apply
   same-apply same-nothing = k
-  same-apply (same-take {p = p} e) = with-identity z k p _ (k .heaps .open-places p (rw e (z .none-empty p)))
-  same-apply same-activate = with-running z k _
-  same-apply (same-empty {p = p} e) = subst (λ q. SameBut z (apply s (empties p)) (apply t (empties q))) e (emptied p)
+  same-apply (same-take {p = p} {i = i} e) =
+      with-places (ap (λ l. set l p i) (k .identities)) (k .running)
+      (set-identity z (s .identities) (s .heaps) (t .heaps) p i (k .heaps)
+      (k .heaps .open-places p (rw e (z .none-empty p))))
+  same-apply same-activate = with-places (k .identities) refl (k .heaps)
+  same-apply (same-empty {p = p} e) =
+      subst (λ q. SameBut z (apply s (empties p)) (apply t (empties q))) e
+      (with-places (ap (λ l. set l p 0) (k .identities)) refl (emptied z (s .identities) (s .heaps) (t .heaps) p (k .heaps)))
   same-apply (same-write {p = p} {o = o} {v = v} {w = w} e n h) =
       subst (λ q. SameBut z (apply s (writes p o v)) (apply t (writes q o w))) e
-      (with-heap z k p _ _ (simp length-sets (k .heaps .sizes p)) (λ g. rw (k .heaps .open-places p g, h g)))
-  same-apply (same-share {o = o} {v = v}) = rw (k .shared) (with-shared z k (sets (t .shared) o v))
-  same-apply (same-log {f = f} e) = rw (e, k .log) (with-log z k (withPair f (t .log)))
-  same-apply (same-escrows e) = with-escrow z k _ _ (same-more (z .value) (k .escrow) e)
+      (with-places (k .identities) (k .running)
+      (set-heaps z (s .identities) (s .heaps) (t .heaps) p _ _ (k .heaps) (simp length-sets (k .heaps .sizes p))
+      (λ g. rw (k .heaps .open-places p g, h g))))
+  same-apply (same-share {o = o} {v = v}) = with-common (ap (λ m. sets m o v) (k .shared)) (k .log) (k .escrow)
+  same-apply (same-log e) = with-common (k .shared) (λ i. withPair (e i) (k .log i)) (k .escrow)
+  same-apply (same-escrows e) = with-common (k .shared) (k .log) (same-more (z .value) (k .escrow) e)

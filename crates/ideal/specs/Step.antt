@@ -157,81 +157,38 @@ move s report = nothing
 
 -- ---- moves on the state
 
-unfoldable pub withHeap : State → ℕ → List ℕ → State
-withHeap s p h =
+abbrev pub withPlaces : State → (identities : List ℕ) (running : ℕ) (heaps : List (List ℕ)) → State
+withPlaces s identities running heaps =
     record {
-      identities = s .identities;
-      running = s .running;
-      heaps = set (s .heaps) p h;
+      identities = identities;
+      running = running;
+      heaps = heaps;
       shared = s .shared;
       log = s .log;
       escrow = s .escrow;
     }
 
-unfoldable pub withRunning : State → ℕ → State
-withRunning s p =
-    record {
-      identities = s .identities;
-      running = p;
-      heaps = s .heaps;
-      shared = s .shared;
-      log = s .log;
-      escrow = s .escrow;
-    }
-
-unfoldable pub withIdentity : State → ℕ → ℕ → State
-withIdentity s p i =
-    record {
-      identities = set (s .identities) p i;
-      running = s .running;
-      heaps = s .heaps;
-      shared = s .shared;
-      log = s .log;
-      escrow = s .escrow;
-    }
-
-unfoldable pub withShared : State → List ℕ → State
-withShared s m =
+-- what is common to all places
+abbrev pub withCommon : State → (shared : List ℕ) (log : List Logged) (escrow : List Escrowed) → State
+withCommon s shared log escrow =
     record {
       identities = s .identities;
       running = s .running;
       heaps = s .heaps;
-      shared = m;
-      log = s .log;
-      escrow = s .escrow;
-    }
-
-unfoldable pub withLog : State → List Logged → State
-withLog s l =
-    record {
-      identities = s .identities;
-      running = s .running;
-      heaps = s .heaps;
-      shared = s .shared;
-      log = l;
-      escrow = s .escrow;
-    }
-
-unfoldable pub withEscrow : State → List Escrowed → State
-withEscrow s l =
-    record {
-      identities = s .identities;
-      running = s .running;
-      heaps = s .heaps;
-      shared = s .shared;
-      log = s .log;
-      escrow = l;
+      shared = shared;
+      log = log;
+      escrow = escrow;
     }
 
 unfoldable pub apply : State → Move → State
 apply s nothing = s
-apply s (takes p i) = withIdentity s p i
-apply s (activates p) = withRunning s p
-apply s (empties p) = withRunning (withIdentity (withHeap s p cleared) p 0) 16
-apply s (writes p o v) = withHeap s p (sets (heapAt s p) o v)
-apply s (shares o v) = withShared s (sets (s .shared) o v)
-apply s (logs e) = withLog s (withPair e (s .log))
-apply s (escrows e) = withEscrow s (s .escrow ++ (e ∷ []))
+apply s (takes p i) = withPlaces s (set (s .identities) p i) (s .running) (s .heaps)
+apply s (activates p) = withPlaces s (s .identities) p (s .heaps)
+apply s (empties p) = withPlaces s (set (s .identities) p 0) 16 (set (s .heaps) p cleared)
+apply s (writes p o v) = withPlaces s (s .identities) (s .running) (set (s .heaps) p (sets (heapAt s p) o v))
+apply s (shares o v) = withCommon s (sets (s .shared) o v) (s .log) (s .escrow)
+apply s (logs e) = withCommon s (s .shared) (withPair e (s .log)) (s .escrow)
+apply s (escrows e) = withCommon s (s .shared) (s .log) (s .escrow ++ (e ∷ []))
 
 unfoldable pub effect : State → Call → State
 effect s c = apply s (move s c)

@@ -14,7 +14,7 @@ use Rattle.ideal.specs.declared.BoxRecord.{BoxRecord}
 use Rattle.ideal.specs.declared.LogRow.{LogRow}
 use Rattle.ideal.specs.declared.Used.{Used}
 use Rattle.ideal.specs.State.{Logged, State, caller, part, ownPart, every}
-use Rattle.ideal.specs.Step.{paired, logged, full, withPair, withLog, first, idle, beyond, tests, refusal, move, apply, effect, number, shown, refusedAnswer, refuse, accepted, settle, step}
+use Rattle.ideal.specs.Step.{paired, logged, full, withPair, withCommon, first, idle, beyond, tests, refusal, move, apply, effect, number, shown, refusedAnswer, refuse, accepted, settle, step}
 use Rattle.ideal.specs.Tables.{Tables, logTable, rowsFrom, flat, usedBy, boxRecord, tables, stateOf}
 use Rattle.ideal.specs.Soundness.{hasIdentity}
 use Rattle.ideal.specs.Box.{Result, laid}
@@ -59,9 +59,9 @@ onLog t r used =
 
 -- one entry more
 added : (s : State) (e : Logged) (used : ℕ) → Room (tables s .box .log) (length (e .value))
-    → laid (record { state = withLog s (s .log ++ (e ∷ [])); answer = record { code = 0; number = e .key .tag .0; used = used; shown = [] } })
+    → laid (record { state = withCommon s (s .shared) (s .log ++ (e ∷ [])) (s .escrow); answer = record { code = 0; number = e .key .tag .0; used = used; shown = [] } })
     ≡ onLog (tables s) (moreLog (tables s .box) (tables s .logValues) (e .key .identity) (e .key .tag) (e .value)) used
-unfolding laid withLog tables boxRecord moreLog logRowsWith escrowRowsWith
+unfolding laid tables boxRecord moreLog logRowsWith escrowRowsWith
 added s e used room = λ j.
     record {
       tables =
@@ -134,7 +134,7 @@ module _ (s : State) (k : Valid s) (o n used : ℕ) where
         sym (paired-logged i v (s .log) tags)
 
     attests : not (paired i v (s .log)) && full (s .log) n ≡ false → laid (settle 0 s c used) ≡ leaves 0 v
-    unfolding laid settle accepted effect move apply number shown withPair withLog attested settled logRowsWith escrowRowsWith
+    unfolding laid settle accepted effect move apply number shown withPair attested settled logRowsWith escrowRowsWith
     attests h =
         let size = own-size s o n k (busy s k runs) within in
         by-cases (paired i v (s .log))

@@ -16,7 +16,7 @@ use Rattle.record.specs.Write.{write, filled}
 use Rattle.record.specs.Statements.{ReadsBack, Fits}
 use Rattle.record.proofs.RoundTrip.{reads-back}
 use Rattle.ideal.specs.State.{State, heapAt, caller, part, ownPart}
-use Rattle.ideal.specs.Step.{refusal, tests, first, idle, beyond, protected, move, withHeap, withEscrow, apply, effect, number, accepted}
+use Rattle.ideal.specs.Step.{refusal, tests, first, idle, beyond, protected, move, apply, effect, number, accepted}
 use Rattle.ideal.specs.Tables.{Tables, freshTables, boxRecord, tables}
 use Rattle.ideal.specs.Box.{Element, Result, laid, callOn, elementAt, tablesFrom, tablesAfter, tablesBefore}
 use Rattle.ideal.specs.Refusals.{ownBytes}
@@ -171,19 +171,19 @@ module _ (s : State) (v : Valid s) (q o n : ℕ) (d : Draw) (r : refusal s (prot
   over-passes = write-accepted s o b (passes .runs) (let f = passes .fits in omega arith)
 
   it-passes : refusal s₁ it ≡ 0
-  unfolding refusal tests idle effect move apply withHeap
+  unfolding refusal tests idle effect move apply
   it-passes = r
 
   same-gets : number s₁ it ≡ number s it
-  unfolding number effect move apply withHeap
+  unfolding number effect move apply
   same-gets = refl
 
   back-passes : refusal s₂ back ≡ 0
-  unfolding effect move apply withHeap withEscrow
+  unfolding effect move apply
   back-passes = write-accepted s₂ o (ownPart s o n) (passes .runs) (let f = passes .fits in omega (arith, length-own))
 
   heaps-back : s₃ .heaps ≡ s .heaps
-  unfolding effect move apply withHeap withEscrow ownPart
+  unfolding effect move apply ownPart
   heaps-back =
       let p = s .running in
       let h = heapAt s p in
@@ -197,7 +197,7 @@ module _ (s : State) (v : Valid s) (q o n : ℕ) (d : Draw) (r : refusal s (prot
   owned = rw (← size) (written-stands s v (passes .runs) o b (let f = passes .fits in omega arith))
 
   same-caller : caller s₁ ≡ caller s
-  unfolding effect move apply withHeap
+  unfolding effect move apply
   same-caller = refl
 
   valid₁ : Valid s₁
@@ -210,7 +210,7 @@ module _ (s : State) (v : Valid s) (q o n : ℕ) (d : Draw) (r : refusal s (prot
   valid₃ = valid-effect s₂ back valid₂ back-passes
 
   same-after : (p : ℕ) (η : Handle) → caller s ≡ p → number s it ≡ η .0 → SameBut (unretrieved p q η) (effect s it) s₃
-  unfolding effect move apply withHeap withEscrow protected number
+  unfolding effect move apply protected number
   same-after p η by gets =
       let z = unretrieved p q η in
       let one : SameEntry (z .value) (protected s q o n d) (protected s₁ q o n d) =

@@ -4,14 +4,14 @@ use mathlib.Core.Path.{_≡_, refl, sym, ap, _∙_, subst}
 use mathlib.Core.Bool.{true, false, _&&_}
 use mathlib.Core.List.{List, [], _∷_}
 use native.Mathlib.Omega.{arith}
-use lib.ListN.{length, replicate, length-replicate, getD-replicate}
+use lib.ListN.{length, getD, set, replicate, length-replicate, getD-replicate}
 use lib.Seq.{getD-set-same, getD-set-other, ext-getD}
 use lib.Dec.{eqb}
 use borrow.Author.Tests.{eqb-true, eqb-false, ltb-false, not-false}
 use Rattle.record.specs.Call.{Call, yield, exit, heapRead}
 use Rattle.record.specs.Write.{filled}
 use Rattle.ideal.specs.State.{State, Move, cleared, heapAt, part, ownPart}
-use Rattle.ideal.specs.Step.{idle, beyond, accepted, shown, refusal, tests, move, withHeap, withRunning, withIdentity, withShared, withLog, withEscrow, apply, effect}
+use Rattle.ideal.specs.Step.{idle, beyond, accepted, shown, refusal, tests, move, apply, effect}
 use Rattle.ideal.specs.Tables.{tables, stateOf}
 use Rattle.ideal.specs.Soundness.{sizesRight, sound}
 use Rattle.ideal.specs.Box.{Element, laid, unsound, callOn, elementAt, tablesBefore}
@@ -37,17 +37,15 @@ data Touch (s : State) (c : Call) (m : Move) (p : ℕ) : Type 0 where
   writes : s .running ≡ p → oneOf (5 ∷ 12 ∷ []) (filled c .kind) ≡ true → Touch s c m p
 
 -- the running heap with something in it
-others-kept : (s : State) (h : List ℕ) (p : ℕ) → eqb p (s .running) ≡ false → heapAt (withHeap s (s .running) h) p ≡ heapAt s p
-unfolding withHeap
+others-kept : (s : State) (h : List ℕ) (p : ℕ) → eqb p (s .running) ≡ false → getD (set (s .heaps) (s .running) h) p [] ≡ heapAt s p
 others-kept s h p e = getD-set-other (s .heaps) (s .running) p h [] (eqb-false p (s .running) e)
 
-own-set : (s : State) (h : List ℕ) → Valid s → s .running < 16 → heapAt (withHeap s (s .running) h) (s .running) ≡ h
-unfolding withHeap
+own-set : (s : State) (h : List ℕ) → Valid s → s .running < 16 → getD (set (s .heaps) (s .running) h) (s .running) [] ≡ h
 own-set s h v l = getD-set-same (s .heaps) (s .running) h [] (omega (arith, v .heaps))
 
 module _ {s : State} (p : ℕ) (v : Valid s) where
   touch-of : {c : Call} {m : Move} → Does s c m → Touch s c m p
-  unfolding apply withRunning withIdentity withShared withLog withEscrow
+  unfolding apply
   touch-of does-nothing = keeps refl
   touch-of (does-take h z n) = keeps refl
   touch-of (does-activate h n) = keeps refl
@@ -129,7 +127,7 @@ runs-below : (es : List Element) (p k : ℕ) → RunsAt callOn es p k → idle (
 runs-below es p k r i = let l = busy (stateBefore es k) (valid-before es k) i in let e = running-before es k in omega arith
 
 pub yield-keeps : YieldKeeps callOn
-unfolding refusal tests effect move apply withRunning
+unfolding refusal tests effect move apply
 yield-keeps es p k m used l y r h =
     let a = accepted-at es k yield used (y .0) (y .1) in
     let b = runs-below es p k r (failed 3 _ _ (a .passes)) in
@@ -137,7 +135,7 @@ yield-keeps es p k m used l y r h =
     ∙ heap-before es p b (suc k) ∙ ap (λ s. heapAt s p) (state-after es k yield used a) ∙ sym (heap-before es p b k)
 
 pub exit-clears : ExitClears callOn
-unfolding refusal tests effect move apply withRunning withIdentity
+unfolding refusal tests effect move apply
 exit-clears es p k m used l y r h =
     let s = stateBefore es k in
     let a = accepted-at es k exit used (y .0) (y .1) in

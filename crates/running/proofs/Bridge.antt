@@ -5,7 +5,8 @@ use mathlib.Core.Path.{_≡_, refl, sym, ap, _∙_}
 use mathlib.Core.List.{List, []}
 use Rattle.record.specs.Call.{Call, start, yield, report}
 use Rattle.ideal.specs.declared.BoxRecord.{BoxRecord}
-use Rattle.ideal.specs.Step.{first, idle, vacant, tests, refusal, withRunning, move, apply, effect, number, shown, services, step}
+use Rattle.ideal.specs.State.{activates}
+use Rattle.ideal.specs.Step.{first, idle, vacant, tests, refusal, move, apply, effect, number, shown, services, step}
 use Rattle.ideal.specs.Tables.{Tables, takenMap, boxRecord, tables, stateOf}
 use Rattle.ideal.specs.Box.{laid}
 use Rattle.ideal.specs.History.{ones}
@@ -39,8 +40,8 @@ module _ (t : Tables) (k : Valid (stateOf t)) (e : tables (stateOf t) ≡ t) whe
       laid-step used e m
       ∙ part-settled (λ x. replacePlaces t x (t .heaps)) (t .box) after (refusal (stateOf t) c) n used refl
 
-  running-moves : (p : ℕ) → tables (withRunning (stateOf t) p) ≡ replacePlaces t (boxWithRunning (t .box) p) (t .heaps)
-  unfolding withRunning tables boxRecord
+  running-moves : (p : ℕ) → tables (apply (stateOf t) (activates p)) ≡ replacePlaces t (boxWithRunning (t .box) p) (t .heaps)
+  unfolding apply tables boxRecord
   running-moves p = ap (λ x. replacePlaces x (boxWithRunning (x .box) p) (x .heaps)) e
 
   pub start-step : (p used : ℕ) → laid (step (stateOf t) (start p) used)

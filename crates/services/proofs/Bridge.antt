@@ -9,7 +9,7 @@ use lib.Seq.{sets}
 use Rattle.record.specs.Call.{create, exit}
 use Rattle.ideal.specs.declared.BoxRecord.{BoxRecord}
 use Rattle.ideal.specs.State.{cleared}
-use Rattle.ideal.specs.Step.{accept, idle, vacant, tests, refusal, withHeap, withRunning, withIdentity, move, apply, effect, number, shown, step}
+use Rattle.ideal.specs.Step.{accept, idle, vacant, tests, refusal, move, apply, effect, number, shown, step}
 use Rattle.ideal.specs.Tables.{Tables, takenMap, flat, boxRecord, tables, stateOf}
 use Rattle.ideal.specs.Box.{laid}
 use Rattle.ideal.proofs.Chain.{failed}
@@ -32,7 +32,7 @@ module _ (t : Tables) (k : Valid (stateOf t)) (e : tables (stateOf t) ≡ t) whe
         tables = replacePlaces t (createOn (t .box) p i .held) (t .heaps);
         answer = answerOf (createOn (t .box) p i .answer) used [];
       }
-  unfolding createOn refusal tests vacant effect move apply number shown withIdentity tables boxRecord stateOf
+  unfolding createOn refusal tests vacant effect move apply number shown tables boxRecord stateOf
   create-step p i used =
       box-step t k e (boxWithIdentity (t .box) p i) used
       (record {
@@ -66,7 +66,7 @@ module _ (t : Tables) (k : Valid (stateOf t)) (e : tables (stateOf t) ≡ t) whe
       }
 
   exit-moves : Moves t (replacePlaces t (boxAfterExit (t .box)) (sets (t .heaps) (256 * t .box .running) cleared)) exit 0 []
-  unfolding refusal tests idle effect move apply number shown withRunning withIdentity withHeap tables boxRecord stateOf
+  unfolding refusal tests idle effect move apply number shown tables boxRecord stateOf
   exit-moves =
       record {
         leaves = λ r.

@@ -11,7 +11,7 @@ use Rattle.ideal.specs.Step.{tests, refusal, move, apply, effect, number, shown
 use Rattle.ideal.specs.Tables.{Tables, tables, stateOf}
 use Rattle.ideal.specs.Box.{laid, outputAfter}
 use Rattle.ideal.specs.Valid.{Valid}
-use Rattle.ideal.proofs.HeapBytes.{replaceShared, with-shared}
+use Rattle.ideal.proofs.HeapBytes.{replaceShared, shared-bytes}
 use Rattle.ideal.proofs.Table.{part-length}
 use Rattle.state.specs.declared.Answer.{Answer}
 use Rattle.state.specs.Answers.{settled}
@@ -63,7 +63,7 @@ module _ (t : Tables) (k : Valid (stateOf t)) (e : tables (stateOf t) ≡ t) whe
   shared-write-moves : (o : ℕ) (v : List ℕ) → Moves t (replaceShared t (sets (t .shared) o v)) (sharedWrite o v) (length v) []
   unfolding effect move apply number shown stateOf
   shared-write-moves o v =
-      record { leaves = λ r. with-shared t k e (sets (t .shared) o v); answers = λ r. refl; shows = λ r. refl }
+      record { leaves = λ r. shared-bytes t k e o v; answers = λ r. refl; shows = λ r. refl }
 
   pub shared-write-step : (o : ℕ) (v : List ℕ) (used : ℕ) → laid (step (stateOf t) (sharedWrite o v) used)
       ≡ record {
