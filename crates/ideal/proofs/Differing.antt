@@ -24,7 +24,8 @@ use Rattle.ideal.proofs.OwnHeap.{own-bytes as own-heap}
 use Rattle.ideal.proofs.TwoStates.{SameBut, same-state, AlikeCalls, same-call, other-call}
 use Rattle.ideal.proofs.ByKind.{same-effect}
 use Rattle.ideal.proofs.TwoRuns.{Indexed, ended, both}
-use Rattle.ideal.proofs.Secret.{held, Disclosed, none-told, runs-below, protect-fits}
+use Rattle.ideal.proofs.Secret.{held, Disclosed, none-told, runs-below}
+use Rattle.ideal.proofs.Does.{protect-passed}
 
 -- ---- a list of calls, each read back from its record and accepted
 
@@ -137,7 +138,7 @@ module _ {s t : State} {c : Call} (k : SameBut (held group) s t) (v : Valid s) (
         attests = λ g o n u q h. own-bytes o n g h (m .attests g o n (whole-call (sym r ∙ q)) h);
         protects = λ g i o n d u q out _.
             let e = whole-call (sym r ∙ q) in
-            own-bytes o n g (protect-fits s i o n d (rw e at p)) (m .protects g i o n d e out p);
+            own-bytes o n g (protect-passed s i o n d v (rw e at p) .fits) (m .protects g i o n d e out p);
       }
 
 alike-at : {s : State} {c d : Call} → AlikeCalls (held group) s c d → read (write c) ≡ whole c (length (write c))

@@ -35,6 +35,7 @@ pub mod Handles
 pub mod Accurate
 pub mod Hosted
 pub mod TwoRuns
+pub mod TwoSteps
 pub mod Secret
 pub mod Demanded
 pub mod Differing

@@ -7,7 +7,7 @@ use native.Mathlib.Omega.{arith}
 use lib.ListN.{length, take}
 use Rattle.ideal.specs.Tables.{Tables, freshTables}
 use Rattle.ideal.specs.Box.{Element, Result, elementAt, tablesFrom, tablesAfter, tablesBefore, answerAt}
-use Rattle.ideal.specs.Secrecy.{AlikeAt, EqualAt, AgreeOutside, PremiseAt, Exemption, AlikeLists, Premise, EqualOutside}
+use Rattle.ideal.specs.Secrecy.{groupRuns, AlikeAt, EqualAt, AgreeOutside, PremiseAt, Exemption, AlikeLists, Premise, EqualOutside}
 
 module _ (box : Tables → Element → Result) (G : ℕ → Bool) where
   -- two lists that are alike and meet the premise, from x and y on
@@ -34,7 +34,7 @@ module _ (exempt : Exemption) (box : Tables → Element → Result) (G : ℕ →
   -- ---- a relation of two runs' tables that calls keep
 
   pub record Stepped (R : Tables → Tables → Type 0) (x y : Tables) (e f : Element) : Type 0 where
-    pub answer : EqualAt G (exempt G x e) x (box x e .answer) (box y f .answer)
+    pub answer : EqualAt (exempt G x e) (groupRuns G x) (box x e .answer) (box y f .answer)
     pub after : R (box x e .tables) (box y f .tables)
 
   pub record Preserved (R : Tables → Tables → Type 0) : Type 0 where
@@ -45,7 +45,7 @@ module _ (exempt : Exemption) (box : Tables → Element → Result) (G : ℕ →
   record Equal (x y : Tables) (es fs : List Element) : Type 0 where
     answers : (k : ℕ) → k < length es
         → let t = tablesFrom box x (take k es) in
-        EqualAt G (exempt G t (elementAt es k)) t (box t (elementAt es k) .answer)
+        EqualAt (exempt G t (elementAt es k)) (groupRuns G t) (box t (elementAt es k) .answer)
         (box (tablesFrom box y (take k fs)) (elementAt fs k) .answer)
     end : AgreeOutside G (tablesFrom box x es) (tablesFrom box y fs)
 

@@ -44,12 +44,12 @@ pub data AlikeAt (G : ℕ → Bool) (t : Tables) (e f : Element) : Type 0 where
   same : e ≡ f → AlikeAt G t e f
   other-bytes : groupRuns G t ≡ true → HeapWrites e f → AlikeAt G t e f
 
--- two answers at one index, where the first run's tables just before are t; of exempt ones code and number are not compared
-pub record EqualAt (G : ℕ → Bool) (exempt : Bool) (t : Tables) (a b : Answer) : Type 0 where
+-- two answers at one index; code and number of exempt ones are not compared, nor the bytes that hidden ones show
+pub record EqualAt (exempt hidden : Bool) (a b : Answer) : Type 0 where
   pub code : exempt ≡ false → a .code ≡ b .code
   pub number : exempt ≡ false → a .number ≡ b .number
   pub used : a .used ≡ b .used
-  pub shown : groupRuns G t ≡ false → a .shown ≡ b .shown
+  pub shown : hidden ≡ false → a .shown ≡ b .shown
 
 -- what is equal in two boxes after the lists
 pub record AgreeOutside (G : ℕ → Bool) (t u : Tables) : Type 0 where
@@ -94,7 +94,7 @@ module _ (box : Tables → Element → Result) (G : ℕ → Bool) (es fs : List 
   pub record EqualOutside (exempt : Exemption) : Type 0 where
     pub answers : (k : ℕ) → k < length es
         → let t = tablesBefore box es k in
-        EqualAt G (exempt G t (elementAt es k)) t (answerAt box es k) (answerAt box fs k)
+        EqualAt (exempt G t (elementAt es k)) (groupRuns G t) (answerAt box es k) (answerAt box fs k)
     pub end : AgreeOutside G (tablesAfter box es) (tablesAfter box fs)
 
 -- demand 3: no answer is exempt

@@ -26,7 +26,7 @@ use Rattle.ideal.proofs.Facts.{facts}
 use Rattle.ideal.proofs.Laid.{stepElement, valid-sound, tables-state, valid-step, call-is}
 use Rattle.ideal.proofs.TwoEscrows.{SameEntry, SameEscrow, no-entries, entry}
 use Rattle.ideal.proofs.TwoStates.{Secrets, SameBut, length-part, NoneTold}
-use Rattle.paper.proofs.SameStep.{both-element}
+use Rattle.ideal.proofs.TwoSteps.{both-element, all-equal}
 use Rattle.ideal.proofs.Secret.{accepted-code, same-box, same-escrow-rows, same-escrow-values}
 
 -- the value under one key may differ, and no heap
@@ -175,13 +175,13 @@ module _ (p q : ℕ) (η : Handle) where
   unfolding answersFrom behaviourFrom tablesFrom laid
   run [] s t v w k h = record { answers = refl; events = refl; end = only-value k v w }
   run (e ∷ es) s t v w k h =
-      let b = both-element z k refl e (λ x c u y. none-told (quiet s e es v h x c u y)) in
+      let b = both-element z k e (λ x c u y. none-told (quiet s e es v h x c u y)) in
       let s′ = stepElement s e .state in
       let t′ = stepElement t e .state in
       let i : callOn (tables s) e .tables ≡ tables s′ = ap (λ r. r .tables) (call-is s e v) in
       let j : callOn (tables t) e .tables ≡ tables t′ = ap (λ r. r .tables) (call-is t e w) in
       let a : callOn (tables s) e .answer ≡ callOn (tables t) e .answer =
-      ap (λ r. r .answer) (call-is s e v) ∙ b .answer ∙ ap (λ r. r .answer) (sym (call-is t e w)) in
+      ap (λ r. r .answer) (call-is s e v) ∙ all-equal refl (b .answer) ∙ ap (λ r. r .answer) (sym (call-is t e w)) in
       let v′ = valid-step s e v in
       let w′ = valid-step t e w in
       let rest : AgreeBut callOn p q η (callOn (tables s) e .tables) (callOn (tables t) e .tables) es =
