@@ -21,6 +21,7 @@ use Rattle.ideal.specs.Valid.{Valid}
 use Rattle.ideal.proofs.Kept.{busy, own-size}
 use Rattle.ideal.proofs.Laid.{stepElement, valid-fresh, valid-step, fresh-tables, call-is}
 use Rattle.ideal.proofs.Memory.{part-at, flat-at, taken-at, ones-taken}
+use Rattle.ideal.proofs.OwnHeap.{sized}
 use Rattle.ideal.proofs.Table.{part-length}
 use Rattle.ideal.proofs.Past.{StateAsPast, fresh-past, past-kept}
 use Rattle.ideal.proofs.ByKind.{does, event-is}
@@ -36,7 +37,7 @@ tables-past s past k h =
       taken = λ p b. rw (taken-at (s .identities) p, h .identity p b);
       services = ap (λ n. ones n (tables s .box .taken)) (sym (k .places)) ∙ ones-taken (s .identities);
       heap = λ p x b c.
-          flat-at (s .heaps) p x (λ q g. k .sizes q (omega (arith, k .heaps))) (omega (arith, k .heaps)) c ∙ h .heap p x b c;
+          flat-at (s .heaps) p x (sized s k) (omega (arith, k .heaps)) c ∙ h .heap p x b c;
       shared = h .shared;
       logRows = ap length (h .log);
       logBytes = ap bytesUsed (h .log);

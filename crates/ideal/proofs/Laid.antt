@@ -23,6 +23,7 @@ use Rattle.ideal.specs.Valid.{Fitting, Valid}
 use Rattle.ideal.proofs.Kept.{Places, LogGood, EscrowGood, valid}
 use Rattle.ideal.proofs.Table.{Lawful, Stands, held, used-rows, entries-back, laid-out, rows-of-entries, entry-count, byte-count, rows-back, values-back, log-lawful, escrow-lawful}
 use Rattle.ideal.proofs.Heaps.{flat-length, chunks-flat, flat-chunks, chunks-length, chunks-sized, flat-replicate, cleared-is, empty-zero, zero-empty}
+use Rattle.ideal.proofs.OwnHeap.{sized}
 use Rattle.ideal.proofs.Facts.{short-tests, log-tests, escrow-tests, Facts, facts, output-size, facts-sound}
 pub use Rattle.ideal.proofs.Kept.{valid-fresh}
 pub use Rattle.ideal.proofs.ByKind.{valid-effect}
@@ -32,7 +33,7 @@ pub use Rattle.ideal.proofs.ByKind.{valid-effect}
 module _ (s : State) (k : Valid s) where
   heaps-back : chunks 16 (flat (s .heaps)) ≡ s .heaps
   heaps-back =
-      ap (λ n. chunks n (flat (s .heaps))) (sym (k .heaps)) ∙ chunks-flat (s .heaps) (λ p h. k .sizes p (omega (arith, k .heaps)))
+      ap (λ n. chunks n (flat (s .heaps))) (sym (k .heaps)) ∙ chunks-flat (s .heaps) (sized s k)
 
   pub state-tables : stateOf (tables s) ≡ s
   unfolding stateOf tables boxRecord
@@ -68,7 +69,7 @@ module _ (s : State) (k : Valid s) where
       let escrow-good = sym (escrow-tests (s .escrow)) ∙ k .escrow-good in
       record {
         places = k .places;
-        heaps = flat-length (s .heaps) (λ p h. k .sizes p (omega (arith, k .heaps))) ∙ rw (k .heaps);
+        heaps = flat-length (s .heaps) (sized s k) ∙ rw (k .heaps);
         shared = k .shared;
         runs = running-taken;
         map = refl;

@@ -44,7 +44,7 @@ fresh-past =
       escrow = refl;
     }
 
--- ---- each move (every `with..` is opened, so that a wrong effect is refused at the fact that it breaks)
+-- ---- each move (all of `apply` is opened, so that a wrong effect is refused at the fact that it breaks)
 
 pub past-kept : {s : State} {past : List Move} {c : Call} {m : Move} → Valid s → StateAsPast s past → Does s c m
     → StateAsPast (apply s m) (m ∷ past)
