@@ -30,15 +30,16 @@ pub record Places (ids : List ℕ) (running : ℕ) (hs : List (List ℕ)) : Type
   pub live : running < 16 → getD ids running 0 ≡ 0 → ⊥
   pub empty : (p : ℕ) → p < 16 → getD ids p 0 ≡ 0 → getD hs p [] ≡ cleared
 
-pub record LogGood (l : List Logged) : Type 0 where
+pub record Good {Key : Type 0} (ok : Entry Key → Bool) (same : Entry Key → Entry Key → Bool) (l : List (Entry Key)) : Type 0 where
   pub fits : Fitting l
-  pub good : every goodLogged l ≡ true
-  pub apart : differ samePair l ≡ true
+  pub good : every ok l ≡ true
+  pub apart : differ same l ≡ true
 
-pub record EscrowGood (l : List Escrowed) : Type 0 where
-  pub fits : Fitting l
-  pub good : every goodEscrowed l ≡ true
-  pub apart : differ sameHandle l ≡ true
+abbrev pub LogGood : List Logged → Type 0
+LogGood l = Good goodLogged samePair l
+
+abbrev pub EscrowGood : List Escrowed → Type 0
+EscrowGood l = Good goodEscrowed sameHandle l
 
 pub valid : (s : State) → Places (s .identities) (s .running) (s .heaps) → length (s .shared) ≡ 1024 → LogGood (s .log)
     → EscrowGood (s .escrow) → Valid s
@@ -168,6 +169,20 @@ unfolding any
 any-same p q [] e = refl
 any-same p q (a ∷ l) e = rw (e a, any-same p q l e)
 
+good-more : {Key : Type 0} {ok : Entry Key → Bool} {same : Entry Key → Entry Key → Bool} {l : List (Entry Key)} (e : Entry Key)
+    (n : ℕ) → Good ok same l → length (e .value) ≡ n → n ≤ 256 → full l n ≡ false → ok e ≡ true → any (λ r. same r e) l ≡ false
+    → Good ok same (l ++ (e ∷ []))
+good-more {ok} {same} {l} e n k s m f g u =
+    record {
+      fits = fitting-more l e n (k .fits) s m f;
+      good = every-more ok l e (k .good) g;
+      apart = differ-more same l e (k .apart) u;
+    }
+
+new-handle : (e : Escrowed) (l : List Escrowed) → any (hasHandle (e .key .handle)) l ≡ false → any (λ r. sameHandle r e) l ≡ false
+unfolding sameHandle hasHandle
+new-handle e l u = any-same _ (hasHandle (e .key .handle)) l (λ r. eqb-comm (e .key .handle .0) (r .key .handle .0)) ∙ u
+
 log-more : (l : List Logged) (i : ℕ) (v : List ℕ) (n : ℕ) → LogGood l → (i ≡ 0 → ⊥) → length v ≡ n → n ≤ 256
     → not (paired i v l) && full l n ≡ false → LogGood (withPair (pairOf i v) l)
 unfolding withPair paired goodLogged rightTag samePair isPair
@@ -175,26 +190,10 @@ log-more l i v n k z e m h =
     by-cases (any (isPair i v) l)
     (λ t. rw t k)
     (λ t.
-    let row = pairOf i v in
     let f = and-other (not (any (isPair i v) l)) _ (not-is _ t) h in
-    let u : any (λ r. samePair r row) l ≡ false = any-same _ (isPair i v) l (λ r. rw (eqb-comm i (r .key .identity), same-comm v (r .value))) ∙ t in
-    rw t
-    (record {
-      fits = fitting-more l row n (k .fits) e m f;
-      good = every-more goodLogged l row (k .good) (and-true (not (eqb i 0)) _ (not-is _ (ne-eqb i 0 z)) (eq-eqb (tagOf i v .0) _ refl));
-      apart = differ-more samePair l row (k .apart) u;
-    }))
-
-escrow-more : (l : List Escrowed) (e : Escrowed) (n : ℕ) → EscrowGood l → length (e .value) ≡ n → n ≤ 256 → full l n ≡ false
-    → goodEscrowed e ≡ true → any (hasHandle (e .key .handle)) l ≡ false → EscrowGood (l ++ (e ∷ []))
-unfolding sameHandle hasHandle
-escrow-more l e n k s m f g u =
-    record {
-      fits = fitting-more l e n (k .fits) s m f;
-      good = every-more goodEscrowed l e (k .good) g;
-      apart = differ-more sameHandle l e (k .apart)
-          (any-same _ (hasHandle (e .key .handle)) l (λ r. eqb-comm (e .key .handle .0) (r .key .handle .0)) ∙ u);
-    }
+    let good = and-true (not (eqb i 0)) _ (not-is _ (ne-eqb i 0 z)) (eq-eqb (tagOf i v .0) _ refl) in
+    let new = any-same _ (isPair i v) l (λ r. rw (eqb-comm i (r .key .identity), same-comm v (r .value))) ∙ t in
+    rw t (good-more (pairOf i v) n k e m f good new))
 
 -- ---- each move
 
@@ -222,9 +221,8 @@ valid-apply {s} k (does-escrow {i = i} {o = o} {n = n} {d = d} a) =
     and-true (not (eqb (caller s) 0)) _ (not-is _ (ne-eqb _ _ (k .live (a .runs))))
     (and-true (not (eqb i 0)) _ (not-is _ (ne-eqb i 0 (a .named)))
     (eq-eqb _ _ (handle-size n d (s .escrow) few (a .small) ∙ sym size))) in
-    let free = free-handle n d (s .escrow) few (a .small) in
-    let more = escrow-more (s .escrow) (protected s i o n d) n (escrow-of k) size (omega arith) (a .room) good free in
-    valid _ (places-of k) (k .shared) (log-of k) more
+    let new = new-handle (protected s i o n d) (s .escrow) (free-handle n d (s .escrow) few (a .small)) in
+    valid _ (places-of k) (k .shared) (log-of k) (good-more _ n (escrow-of k) size (omega arith) (a .room) good new)
 
 -- ---- a fresh box
 
