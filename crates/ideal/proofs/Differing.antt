@@ -19,12 +19,13 @@ use Rattle.ideal.specs.Secrecy.{inside, groupRuns, AlikeAt, same, other-
 use Rattle.ideal.specs.Witness.{group, calls, element, elements, PremisesCanBeMet}
 use Rattle.ideal.specs.Valid.{Valid}
 use Rattle.ideal.proofs.Laid.{stepElement, valid-fresh, valid-effect, fresh-tables, call-is}
+use Rattle.ideal.proofs.Bools.{and-false, and-other}
 use Rattle.ideal.proofs.Hosted.{byte-is}
 use Rattle.ideal.proofs.OwnHeap.{own-bytes as own-heap}
-use Rattle.ideal.proofs.TwoStates.{SameBut, same-state, AlikeCalls, same-call, other-call}
+use Rattle.ideal.proofs.TwoStates.{SameBut, same-state, AlikeCalls, same-call, other-call, NoneTold}
 use Rattle.ideal.proofs.ByKind.{same-effect}
 use Rattle.ideal.proofs.TwoRuns.{Indexed, ended, both}
-use Rattle.ideal.proofs.Secret.{held, Disclosed, none-told, runs-below}
+use Rattle.ideal.proofs.Secret.{held, runs-below}
 use Rattle.ideal.proofs.Does.{protect-passed}
 
 -- ---- a list of calls, each read back from its record and accepted
@@ -99,9 +100,9 @@ alike : {s t : State} {c : Call} {cs ds : List Call} → Known (move s c) (move 
     → Steps s t (c ∷ cs) (c ∷ ds)
 alike {c = c} k rest = step (same-call c) k rest
 
-disclosed : {s t : State} {c : Call} → Known (move s c) (move t c) → Disclosed group s t c
+told : {s t : State} {c : Call} → Known (move s c) (move t c) → NoneTold (held group) s t c
 unfolding move protected
-disclosed {s} {t} k =
+told {s} {t} k =
     record {
       attests = λ g o n q h.
           let m = subst (λ x. Known (move s x) (move t x)) q k in
@@ -109,9 +110,10 @@ disclosed {s} {t} k =
           ap (λ x. x .value) e;
       protects = λ g i o n d q out r.
           let known = subst (λ x. Known (move s x) (move t x)) q k in
-          let m = subst (λ b. Unless b (move s (protect i o n d) ≡ move t (protect i o n d))) out known in
+          let m = subst (λ b. Unless b (move s (protect i o n d) ≡ move t (protect i o n d))) (and-other _ _ g out) known in
           let e : protected s i o n d ≡ protected t i o n d = cc in
           ap (λ x. x .value) e;
+      retrieves = λ g i o h q r. and-false (inside group i) _ g;
     }
 
 whole-call : {c d : Call} {m n : ℕ} → whole c m ≡ whole d n → c ≡ d
@@ -131,14 +133,14 @@ module _ {s t : State} {c : Call} (k : SameBut (held group) s t) (v : Valid s) (
       let e = k .running in
       own-heap s v b o n h ∙ q ∙ sym (own-heap t w (omega arith) o n h)
 
-  premise-at : refusal s c ≡ 0 → Disclosed group s t c → PremiseAt callOn group (tables s) (tables t) (element c)
-  unfolding groupRuns tables boxRecord element
+  premise-at : refusal s c ≡ 0 → NoneTold (held group) s t c → PremiseAt callOn group (tables s) (tables t) (element c)
+  unfolding groupRuns tables boxRecord element protected
   premise-at p m =
       record {
         attests = λ g o n u q h. own-bytes o n g h (m .attests g o n (whole-call (sym r ∙ q)) h);
         protects = λ g i o n d u q out _.
             let e = whole-call (sym r ∙ q) in
-            own-bytes o n g (protect-passed s i o n d v (rw e at p) .fits) (m .protects g i o n d e out p);
+            own-bytes o n g (protect-passed s i o n d v (rw e at p) .fits) (m .protects g i o n d e (and-false (inside group (caller s)) _ out) p);
       }
 
 alike-at : {s : State} {c d : Call} → AlikeCalls (held group) s c d → read (write c) ≡ whole c (length (write c))
@@ -163,8 +165,8 @@ indexed : {s t : State} {cs ds : List Call} → SameBut (held group) s t → Val
     → Steps s t cs ds → Indexed callOn group (tables s) (tables t) (map element cs) (map element ds)
 indexed k v w none none end = ended callOn group
 indexed k v w (call r p a) (call r′ p′ b) (step {cs = cs} {ds = ds} l m rest) =
-    let next = same-effect (held group) k l (none-told group (disclosed m)) p in
-    both callOn group (alike-at l r r′) (premise-at k v w r p (disclosed m))
+    let next = same-effect (held group) k l (told m) p in
+    both callOn group (alike-at l r r′) (premise-at k v w r p (told m))
     (subst₂ (λ x y. Indexed callOn group x y (map element cs) (map element ds)) (sym (next-tables v r p))
     (sym (next-tables w r′ p′)) (indexed next (valid-effect _ _ v p) (valid-effect _ _ w p′) a b rest))
 

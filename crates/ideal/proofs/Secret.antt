@@ -7,8 +7,7 @@ use native.Mathlib.Omega.{arith}
 use lib.ListN.{length, getD, List·getD-eq-default}
 use lib.Dec.{eqb, ltb}
 use borrow.Author.Tests.{ltb-true, ltb-false}
-use Rattle.record.specs.declared.Draw.{Draw}
-use Rattle.record.specs.Call.{Call, attest, protect}
+use Rattle.record.specs.Call.{Call}
 use Rattle.record.specs.Read.{whole, read}
 use Rattle.ideal.specs.State.{EscrowKey, Escrowed, State, fresh, caller, part, ownPart}
 use Rattle.ideal.specs.Step.{refusal, protected, accepted, settle, step, onReading, stepOn}
@@ -42,21 +41,6 @@ held G =
       none-empty = λ _. inside-zero G;
     }
 
--- the premise at a call, on the states
-pub record Disclosed (G : ℕ → Bool) (s t : State) (c : Call) : Type 0 where
-  pub attests : inside G (caller s) ≡ true → (o n : ℕ) → c ≡ attest o n → o + n ≤ 256 → ownPart s o n ≡ ownPart t o n
-  pub protects : inside G (caller s) ≡ true → (i o n : ℕ) (d : Draw) → c ≡ protect i o n d → inside G i ≡ false
-      → refusal s c ≡ 0 → ownPart s o n ≡ ownPart t o n
-
-pub none-told : (G : ℕ → Bool) {s t : State} {c : Call} → Disclosed G s t c → NoneTold (held G) s t c
-unfolding protected
-none-told G p =
-    record {
-      attests = p .attests;
-      protects = λ g i o n d q e r. p .protects g i o n d q (and-other _ _ g e) r;
-      retrieves = λ g i o h q r. and-false (inside G i) _ g;
-    }
-
 -- ---- the premise, on the states
 
 pub runs-below : (G : ℕ → Bool) (s : State) → Valid s → inside G (caller s) ≡ true → s .running < 16
@@ -83,15 +67,15 @@ module _ (G : ℕ → Bool) {s t : State} (k : SameBut (held G) s t) (v : Valid 
       sym (own-bytes s v r o n h) ∙ q ∙ own-bytes t w (omega arith) o n h
 
   told : eqb (e .outputSize) 1024 ≡ true → (c : Call) (u : ℕ) → read (e .bytes) ≡ whole c u → NoneTold (held G) s t c
-  unfolding groupRuns tables boxRecord
+  unfolding groupRuns tables boxRecord protected
   told x c u y =
-      none-told G
-      (record {
+      record {
         attests = λ g o n q h. same-own o n g h (p .attests g o n u (y ∙ ap (λ z. whole z u) q) h);
         protects = λ g i o n d q out r.
             same-own o n g (protect-passed s i o n d v (rw q at r) .fits)
-            (p .protects g i o n d u (y ∙ ap (λ z. whole z u) q) out (accepted-code s e c u v x y r));
-      })
+            (p .protects g i o n d u (y ∙ ap (λ z. whole z u) q) (and-other _ _ g out) (accepted-code s e c u v x y r));
+        retrieves = λ g i o h q r. and-false (inside G i) _ g;
+      }
 
   both-alike : (f : Element) → AlikeAt G (tables s) e f → Both (held G) s (stepElement s e) (stepElement t f)
   unfolding groupRuns tables boxRecord
