@@ -12,7 +12,7 @@ use Rattle.record.specs.declared.Draw.{Draw}
 use Rattle.record.specs.Call.{Call, protect}
 use Rattle.record.specs.Read.{whole}
 use Rattle.ideal.specs.State.{Escrowed, State, Move, fresh, caller, any, sameBytes}
-use Rattle.ideal.specs.Step.{isEscrowed, found, hasHandle, protected, refusal, move, apply, effect, number}
+use Rattle.ideal.specs.Step.{isEscrowed, found, hasHandle, protected, move, apply, effect, number}
 use Rattle.ideal.specs.Soundness.{sameHandle}
 use Rattle.ideal.specs.Box.{Element, callOn, elementAt}
 use Rattle.ideal.specs.Accuracy.{Earlier, ProtectsAt, ProtectedBefore}
@@ -21,7 +21,6 @@ use Rattle.ideal.proofs.Lists.{same-bytes, same-bytes-refl, any-append,
 use Rattle.ideal.proofs.Unique.{finds, found-any}
 use Rattle.ideal.specs.Valid.{Valid}
 use Rattle.ideal.proofs.Does.{ProtectPassed, protect-passed, Does, does-nothing, does-take, does-activate, does-empty, does-write, does-share, does-log, does-escrow}
-use Rattle.ideal.proofs.ByKind.{does}
 use Rattle.ideal.proofs.Runs.{stateBefore, valid-before, caller-before, own-before, accepted-at, accepts-at, Accepted, number-at}
 use Rattle.ideal.proofs.Since.{Fed, AddsAt, since}
 
@@ -33,20 +32,16 @@ data Protects (s : State) : Call → Type 0 where
 entry : (s : State) (c : Call) → Protects s c → Escrowed
 entry s c (protects {i = i} {o = o} {n = n} {d = d} a) = protected s i o n d
 
-others-of : {s : State} {c : Call} {m : Move} → Does s c m → (apply s m .escrow ≡ s .escrow) ⊎ Protects s c
+others : {s : State} {c : Call} {m : Move} → Does s c m → (apply s m .escrow ≡ s .escrow) ⊎ Protects s c
 unfolding apply
-others-of does-nothing = inl refl
-others-of (does-take h z n) = inl refl
-others-of (does-activate h n) = inl refl
-others-of (does-empty h) = inl refl
-others-of (does-write w h f) = inl refl
-others-of (does-share f) = inl refl
-others-of (does-log a) = inl refl
-others-of (does-escrow a) = inr (protects a)
-
-others : (s : State) (c : Call) → Valid s → refusal s c ≡ 0 → (effect s c .escrow ≡ s .escrow) ⊎ Protects s c
-unfolding effect
-others s c k r = others-of (does s c k r)
+others does-nothing = inl refl
+others (does-take h z n) = inl refl
+others (does-activate h n) = inl refl
+others (does-empty h) = inl refl
+others (does-write w h f) = inl refl
+others (does-share f) = inl refl
+others (does-log a) = inl refl
+others (does-escrow a) = inr (protects a)
 
 more : (test : Escrowed → Bool) (s : State) (c : Call) (a : Protects s c) → Valid s
     → any test (effect s c .escrow) ≡ any test (s .escrow) || test (entry s c a)

@@ -10,7 +10,7 @@ use Rattle.fnv.specs.declared.Tag.{Tag}
 use Rattle.fnv.specs.Fnv.{tagOf}
 use Rattle.record.specs.Call.{Call, attest}
 use Rattle.ideal.specs.State.{Logged, State, Move, fresh, caller, ownPart, any, every}
-use Rattle.ideal.specs.Step.{isPair, isLogged, paired, logged, pairOf, withPair, refusal, move, apply, effect, number}
+use Rattle.ideal.specs.Step.{isPair, isLogged, paired, logged, pairOf, withPair, move, apply, effect, number}
 use Rattle.ideal.specs.Soundness.{rightTag}
 use Rattle.ideal.specs.Box.{Element, callOn, elementAt}
 use Rattle.ideal.specs.Accuracy.{Earlier, LogsAt}
@@ -18,7 +18,6 @@ use Rattle.ideal.proofs.Bools.{by-cases, and-left, and-right, and-true,
 use Rattle.ideal.proofs.Lists.{same-bytes, same-bytes-refl, any-append, any-one, every-at, any-at, at-any}
 use Rattle.ideal.specs.Valid.{Valid, goodLogged}
 use Rattle.ideal.proofs.Does.{AttestPassed, attest-passed, Does, does-nothing, does-take, does-activate, does-empty, does-write, does-share, does-log, does-escrow}
-use Rattle.ideal.proofs.ByKind.{does}
 use Rattle.ideal.proofs.Runs.{stateBefore, valid-before, caller-before, own-before, accepted-at, accepts-at, Accepted, number-at}
 use Rattle.ideal.proofs.Since.{Fed, AddsAt, since}
 
@@ -28,20 +27,16 @@ data Attests (s : State) : Call → Type 0 where
 entry : (s : State) (c : Call) → Attests s c → Logged
 entry s c (attests {o = o} {n = n} a) = pairOf (caller s) (ownPart s o n)
 
-others-of : {s : State} {c : Call} {m : Move} → Does s c m → (apply s m .log ≡ s .log) ⊎ Attests s c
+others : {s : State} {c : Call} {m : Move} → Does s c m → (apply s m .log ≡ s .log) ⊎ Attests s c
 unfolding apply
-others-of does-nothing = inl refl
-others-of (does-take h z n) = inl refl
-others-of (does-activate h n) = inl refl
-others-of (does-empty h) = inl refl
-others-of (does-write w h f) = inl refl
-others-of (does-share f) = inl refl
-others-of (does-log a) = inr (attests a)
-others-of (does-escrow a) = inl refl
-
-others : (s : State) (c : Call) → Valid s → refusal s c ≡ 0 → (effect s c .log ≡ s .log) ⊎ Attests s c
-unfolding effect
-others s c k r = others-of (does s c k r)
+others does-nothing = inl refl
+others (does-take h z n) = inl refl
+others (does-activate h n) = inl refl
+others (does-empty h) = inl refl
+others (does-write w h f) = inl refl
+others (does-share f) = inl refl
+others (does-log a) = inr (attests a)
+others (does-escrow a) = inl refl
 
 module _ (i : ℕ) (g : Tag) (v : List ℕ) where
   record IsLogged (r : Logged) : Type 0 where

@@ -8,19 +8,21 @@ use native.Mathlib.Omega.{arith}
 use lib.Dec.{eqb}
 use borrow.Author.Tests.{eqb-true, eqb-false}
 use Rattle.record.specs.Call.{Call}
-use Rattle.ideal.specs.State.{State, fresh, any}
-use Rattle.ideal.specs.Step.{refusal, effect}
+use Rattle.ideal.specs.State.{State, Move, fresh, any}
+use Rattle.ideal.specs.Step.{apply, effect}
 use Rattle.ideal.specs.Box.{Element, elementAt}
 use Rattle.ideal.specs.Accuracy.{Earlier}
 use Rattle.ideal.proofs.Bools.{by-cases, clash, or-split, or-true-left, or-true-right}
 use Rattle.ideal.specs.Valid.{Valid}
+use Rattle.ideal.proofs.Does.{Does}
+use Rattle.ideal.proofs.ByKind.{does}
 use Rattle.ideal.proofs.Runs.{stateBefore, valid-before, Accepted, stays, moves, moved, state-first, state-next, state-after}
 
 module _ {A : Type 0} (Adds : State → Call → Type 0) (entry : (s : State) (c : Call) → Adds s c → A) (test : A → Bool) where
   -- a fresh table is empty, an accepted call that adds an entry adds it, and no other accepted call alters the table
   pub record Fed (table : State → List A) : Type 0 where
     pub empty : any test (table fresh) ≡ false
-    pub others : (s : State) (c : Call) → Valid s → refusal s c ≡ 0 → (table (effect s c) ≡ table s) ⊎ Adds s c
+    pub others : {s : State} {c : Call} {m : Move} → Does s c m → (table (apply s m) ≡ table s) ⊎ Adds s c
     pub more : (s : State) (c : Call) (a : Adds s c) → Valid s
         → any test (table (effect s c)) ≡ any test (table s) || test (entry s c a)
 
@@ -42,10 +44,11 @@ module _ {A : Type 0} (Adds : State → Call → Type 0) (entry : (s : State) (c
       grows : (c : Call) (used : ℕ) → Adds (stateBefore es k) c → Accepted (stateBefore es k) (elementAt es k) c used → Turn k
 
     turn : (k : ℕ) → Turn k
+    unfolding effect
     turn k =
         elim (moved (stateBefore es k) (elementAt es k)) [
           | stays q ↦ same (ap table (state-next es k ∙ q))
-          | moves c used a ↦ elim (fed .others (stateBefore es k) c (valid-before es k) (a .passes)) [
+          | moves c used a ↦ elim (fed .others (does (stateBefore es k) c (valid-before es k) (a .passes))) [
             | inl q ↦ same (ap table (state-after es k c used a) ∙ q)
             | inr x ↦ grows c used x a
           ]
