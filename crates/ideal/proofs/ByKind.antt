@@ -1,5 +1,5 @@
 -- What is proved kind by kind: that an accepted call does its move, that the history tells that move, what the call
--- answers, and what it does in two states. Assumes nothing.
+-- answers, and what it does in two states (and its refusals, in CallNumbers.antt). Assumes nothing.
 use Prim.Native.Nat.{ℕ, _+_, _≤_, _<_}
 use mathlib.Core.Path.{_≡_, refl, sym, ap, _∙_}
 use mathlib.Core.Bool.{false, false≢true}
@@ -96,7 +96,7 @@ event-is s report k r = refl
 -- ---- what it answers, as specs/Answers.antt says it
 
 pub answered : (s : State) (c : Call) (used : ℕ) → Valid s → refusal s c ≡ 0 → Answered (tables s) c used (accepted s c used .answer)
-unfolding accepted number shown plainNumber tables boxRecord oneOf any filled refusal tests beyond
+unfolding accepted number shown plainNumber tables boxRecord oneOf any filled
 answered s (create p i) used k r = record { number = λ n e. cc; used = refl; shown = λ h. refl }
 answered s (start p) used k r = record { number = λ n e. cc; used = refl; shown = λ h. refl }
 answered s yield used k r = record { number = λ n e. cc; used = refl; shown = λ h. refl }
@@ -106,8 +106,8 @@ answered s (heapRead p o m) used k r = record { number = λ n e. cc; used = refl
 answered s (sharedWrite o v) used k r = record { number = λ n e. cc; used = refl; shown = λ h. refl }
 answered s (sharedRead o m) used k r = record { number = λ n e. cc; used = refl; shown = λ h. absurd (false≢true (sym h)) }
 answered s (attest o m) used k r =
-    let f = ltb-false 256 _ (failed 10 _ _ (passed 3 _ _ r)) in
-    let own = own-bytes s k (busy s k (failed 3 _ _ r)) o m f in
+    let a = attest-passed s o m k r in
+    let own = own-bytes s k (a .runs) o m (a .fits) in
     record { number = λ n e. cc own; used = refl; shown = λ h. refl }
 answered s (check i g v) used k r = record { number = λ n e. cc; used = refl; shown = λ h. refl }
 answered s (protect i o m d) used k r = record { number = λ n e. cc; used = refl; shown = λ h. refl }
