@@ -10,8 +10,8 @@ use Rattle.record.specs.declared.Draw.{Draw}
 use Rattle.record.specs.Call.{protect}
 use Rattle.ideal.specs.declared.BoxRecord.{BoxRecord}
 use Rattle.ideal.specs.declared.EscrowRow.{EscrowRow}
-use Rattle.ideal.specs.State.{State, EscrowKey, Escrowed, part, ownPart, heapAt}
-use Rattle.ideal.specs.Step.{freeHandle, full, _then_, accept, first, idle, beyond, tests, refusal, withEscrow, protected, effect, number, shown, step}
+use Rattle.ideal.specs.State.{State, escrows, EscrowKey, Escrowed, part, ownPart, heapAt}
+use Rattle.ideal.specs.Step.{freeHandle, full, _then_, accept, first, idle, beyond, tests, refusal, protected, move, apply, effect, number, shown, step}
 use Rattle.ideal.specs.Tables.{Tables, usedBy, boxRecord, tables, stateOf}
 use Rattle.ideal.specs.Box.{Result, laid}
 use Rattle.ideal.proofs.Chain.{failed, passed}
@@ -91,8 +91,8 @@ withMore t k v = replaceEscrow t (moreEscrow (t .box) (t .escrowValues) k v)
 
 -- one entry more
 added : (s : State) (x : Escrowed) → Room (usedBy (s .escrow)) (length (x .value))
-    → tables (withEscrow s (s .escrow ++ (x ∷ []))) ≡ withMore (tables s) (x .key) (x .value)
-unfolding tables boxRecord withEscrow moreEscrow
+    → tables (apply s (escrows x)) ≡ withMore (tables s) (x .key) (x .value)
+unfolding tables boxRecord apply moreEscrow
 added s x room = λ j.
     record {
       box =
@@ -157,7 +157,7 @@ module _ (t : Tables) (k : Valid (stateOf t)) (e : tables (stateOf t) ≡ t) whe
       entry-is = rw (value-is, value-size)
 
     protect-moves : Moves t (withMore t key value) (protect i o n d) (key .handle .0) []
-    unfolding effect number shown stateOf
+    unfolding effect move apply number shown stateOf
     protect-moves =
         record {
           leaves = λ r.

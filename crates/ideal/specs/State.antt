@@ -1,6 +1,6 @@
 -- The state of the box, in the terms of the CAIF paper's ideal functionality (its section 3).
 use Prim.Native.Nat.{ℕ, _+_}
-use mathlib.Core.List.{List, [], _∷_, _++_}
+use mathlib.Core.List.{List, [], _∷_}
 use lib.ListN.{length, getD, take, drop, replicate}
 use Rattle.fnv.specs.declared.Tag.{Tag}
 unfoldable pub use Rattle.lists.specs.Lists.{any, every, find, sameBytes}
@@ -35,6 +35,24 @@ pub record State : Type 0 where
   pub shared : List ℕ
   pub log : List Logged
   pub escrow : List Escrowed
+
+-- what an accepted call does to the state
+pub data Move : Type 0 where
+  nothing : Move
+  -- a place gets an identity
+  takes : (place identity : ℕ) → Move
+  -- a place runs, or none where it is 16
+  activates : (place : ℕ) → Move
+  -- a place is emptied, its heap zeroed, and none runs
+  empties : (place : ℕ) → Move
+  -- bytes into a place's heap
+  writes : (place offset : ℕ) (bytes : List ℕ) → Move
+  -- bytes into shared memory
+  shares : (offset : ℕ) (bytes : List ℕ) → Move
+  -- an entry to the log, unless its pair is there
+  logs : (entry : Logged) → Move
+  -- an entry to the escrow
+  escrows : (entry : Escrowed) → Move
 
 -- an empty place's heap
 unfoldable pub cleared : List ℕ

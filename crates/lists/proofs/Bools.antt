@@ -1,7 +1,7 @@
 -- Tests that are Bools. Assumes nothing.
 use mathlib.Core.Path.{_≡_, refl}
 use mathlib.Core.Logic.{_⊎_, inl, inr}
-use mathlib.Core.Bool.{Bool, true, false, not, _&&_, _||_, cond, true≢false, false≢true}
+use mathlib.Core.Bool.{Bool, true, false, not, _&&_, _||_, true≢false, false≢true}
 
 -- by the value of a test, with its equation at hand
 pub by-cases : {P : Type 0} (b : Bool) → (b ≡ true → P) → (b ≡ false → P) → P
@@ -55,10 +55,6 @@ or-false-right false b h = h
 pub not-is : (b : Bool) → b ≡ false → not b ≡ true
 not-is true h = absurd (true≢false h)
 not-is false h = refl
-
-pub not-not : (b : Bool) → b ≡ true → not b ≡ false
-not-not true h = refl
-not-not false h = absurd (false≢true h)
 
 pub clash : {P : Type 0} (b : Bool) → b ≡ true → b ≡ false → P
 clash true x y = absurd (true≢false y)

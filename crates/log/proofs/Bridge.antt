@@ -13,7 +13,7 @@ use Rattle.record.specs.Call.{Call, attest, check}
 use Rattle.ideal.specs.declared.BoxRecord.{BoxRecord}
 use Rattle.ideal.specs.declared.LogRow.{LogRow}
 use Rattle.ideal.specs.State.{Logged, State, caller, part, ownPart, every}
-use Rattle.ideal.specs.Step.{paired, logged, full, withPair, withLog, first, idle, beyond, tests, refusal, effect, number, shown, refusedAnswer, refuse, accepted, settle, step}
+use Rattle.ideal.specs.Step.{paired, logged, full, withPair, withCommon, first, idle, beyond, tests, refusal, move, apply, effect, number, shown, refusedAnswer, refuse, accepted, settle, step}
 use Rattle.ideal.specs.Tables.{Tables, logTable, rowsFrom, flat, usedBy, boxRecord, tables, stateOf}
 use Rattle.ideal.specs.Soundness.{hasIdentity}
 use Rattle.ideal.specs.Box.{Result, laid}
@@ -45,9 +45,9 @@ onLog t r used =
 
 -- one entry more
 added : (s : State) (e : Logged) (used : ℕ) → Room (tables s .box .log) (length (e .value))
-    → laid (record { state = withLog s (s .log ++ (e ∷ [])); answer = record { code = 0; number = e .key .tag .0; used = used; shown = [] } })
+    → laid (record { state = withCommon s (s .shared) (s .log ++ (e ∷ [])) (s .escrow); answer = record { code = 0; number = e .key .tag .0; used = used; shown = [] } })
     ≡ onLog (tables s) (moreLog (tables s .box) (tables s .logValues) (e .key) (e .value)) used
-unfolding laid withLog tables boxRecord moreLog
+unfolding laid tables boxRecord moreLog
 added s e used room = λ j.
     record {
       tables =
@@ -120,7 +120,7 @@ module _ (s : State) (k : Valid s) (o n used : ℕ) where
         sym (paired-logged i v (s .log) tags)
 
     attests : not (paired i v (s .log)) && full (s .log) n ≡ false → laid (settle 0 s c used) ≡ leaves 0 v
-    unfolding laid settle accepted effect number shown withPair withLog attested settled
+    unfolding laid settle accepted effect move apply number shown withPair attested settled
     attests h =
         let size = own-size s o n k (busy s k runs) within in
         by-cases (paired i v (s .log))
@@ -156,7 +156,7 @@ check-laid : (s : State) (i : ℕ) (g : Tag) (v : List ℕ) (used : ℕ) → lai
       tables = tables s;
       answer = answerOf (checkOn (tables s .box) (tables s .logRows) (tables s .logValues) i g v) used [];
     }
-unfolding laid step refusal tests first settle refuse refusedAnswer accepted effect number shown checkOn answered tables boxRecord
+unfolding laid step refusal tests first settle refuse refusedAnswer accepted effect move apply number shown checkOn answered tables boxRecord
 check-laid s i g v used = by-cases (eqb i 0) (λ e. rw e) (λ e. rw (e, entries-back log-lawful (s .log)))
 
 pub check-step : (t : Tables) → Valid (stateOf t) → tables (stateOf t) ≡ t → (i : ℕ) (g : Tag) (v : List ℕ) (used : ℕ)

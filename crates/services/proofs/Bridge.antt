@@ -8,8 +8,8 @@ use lib.ListN.{length, set}
 use lib.Seq.{sets}
 use Rattle.record.specs.Call.{Call, create, start, yield, exit, report}
 use Rattle.ideal.specs.declared.BoxRecord.{BoxRecord}
-use Rattle.ideal.specs.State.{cleared}
-use Rattle.ideal.specs.Step.{accept, first, idle, vacant, tests, refusal, withHeap, withRunning, withIdentity, effect, number, shown, services, step}
+use Rattle.ideal.specs.State.{activates, cleared}
+use Rattle.ideal.specs.Step.{accept, first, idle, vacant, tests, refusal, move, apply, effect, number, shown, services, step}
 use Rattle.ideal.specs.Tables.{Tables, takenMap, flat, boxRecord, tables, stateOf}
 use Rattle.ideal.specs.Box.{laid}
 use Rattle.ideal.specs.History.{ones}
@@ -56,7 +56,7 @@ module _ (t : Tables) (k : Valid (stateOf t)) (e : tables (stateOf t) ≡ t) whe
         tables = replacePlaces t (createOn (t .box) p i .held) (t .heaps);
         answer = answerOf (createOn (t .box) p i .answer) used [];
       }
-  unfolding createOn refusal tests vacant effect number shown withIdentity tables boxRecord stateOf
+  unfolding createOn refusal tests vacant effect move apply number shown tables boxRecord stateOf
   create-step p i used =
       box-step (boxWithIdentity (t .box) p i) used
       (record {
@@ -65,8 +65,8 @@ module _ (t : Tables) (k : Valid (stateOf t)) (e : tables (stateOf t) ≡ t) whe
         shows = λ r. refl;
       })
 
-  running-moves : (p : ℕ) → tables (withRunning (stateOf t) p) ≡ replacePlaces t (boxWithRunning (t .box) p) (t .heaps)
-  unfolding withRunning tables boxRecord
+  running-moves : (p : ℕ) → tables (apply (stateOf t) (activates p)) ≡ replacePlaces t (boxWithRunning (t .box) p) (t .heaps)
+  unfolding apply tables boxRecord
   running-moves p = ap (λ x. replacePlaces x (boxWithRunning (x .box) p) (x .heaps)) e
 
   pub start-step : (p used : ℕ) → laid (step (stateOf t) (start p) used)
@@ -74,7 +74,7 @@ module _ (t : Tables) (k : Valid (stateOf t)) (e : tables (stateOf t) ≡ t) whe
         tables = replacePlaces t (startOn (t .box) p .held) (t .heaps);
         answer = answerOf (startOn (t .box) p .answer) used [];
       }
-  unfolding startOn refusal tests idle vacant effect number shown stateOf
+  unfolding startOn refusal tests idle vacant effect move apply number shown stateOf
   start-step p used =
       box-step (boxWithRunning (t .box) p) used (record { leaves = λ r. running-moves p; answers = λ r. refl; shows = λ r. refl })
 
@@ -83,7 +83,7 @@ module _ (t : Tables) (k : Valid (stateOf t)) (e : tables (stateOf t) ≡ t) whe
         tables = replacePlaces t (yieldOn (t .box) .held) (t .heaps);
         answer = answerOf (yieldOn (t .box) .answer) used [];
       }
-  unfolding yieldOn refusal tests idle effect number shown stateOf
+  unfolding yieldOn refusal tests idle effect move apply number shown stateOf
   yield-step used =
       box-step (boxWithRunning (t .box) 16) used (record { leaves = λ r. running-moves 16; answers = λ r. refl; shows = λ r. refl })
 
@@ -112,7 +112,7 @@ module _ (t : Tables) (k : Valid (stateOf t)) (e : tables (stateOf t) ≡ t) whe
       }
 
   exit-moves : Moves t (replacePlaces t (boxAfterExit (t .box)) (sets (t .heaps) (256 * t .box .running) cleared)) exit 0 []
-  unfolding refusal tests idle effect number shown withRunning withIdentity withHeap tables boxRecord stateOf
+  unfolding refusal tests idle effect move apply number shown tables boxRecord stateOf
   exit-moves =
       record {
         leaves = λ r.
@@ -139,7 +139,7 @@ module _ (t : Tables) (k : Valid (stateOf t)) (e : tables (stateOf t) ≡ t) whe
 
   pub report-step : (used : ℕ) → laid (step (stateOf t) report used)
       ≡ record { tables = t; answer = answerOf (reportOn (t .box)) used [] }
-  unfolding reportOn refusal tests first settled answered effect number shown tables boxRecord stateOf
+  unfolding reportOn refusal tests first settled answered effect move apply number shown tables boxRecord stateOf
   report-step used =
       laid-step {n = counts (t .box)} used e
       (record {

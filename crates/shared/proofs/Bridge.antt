@@ -8,12 +8,12 @@ use lib.Seq.{sets}
 use borrow.Author.Tests.{ltb-false}
 use Rattle.record.specs.Call.{sharedWrite, sharedRead}
 use Rattle.ideal.specs.State.{part}
-use Rattle.ideal.specs.Step.{beyond, tests, refusal, effect, number, shown, step}
+use Rattle.ideal.specs.Step.{beyond, tests, refusal, move, apply, effect, number, shown, step}
 use Rattle.ideal.specs.Tables.{Tables, tables, stateOf}
 use Rattle.ideal.specs.Box.{laid}
 use Rattle.ideal.specs.Valid.{Valid}
 use Rattle.ideal.proofs.Chain.{failed}
-use Rattle.ideal.proofs.HeapBytes.{replaceShared, with-shared}
+use Rattle.ideal.proofs.HeapBytes.{replaceShared, shared-bytes}
 use Rattle.ideal.proofs.Table.{part-length}
 use Rattle.state.proofs.Settled.{answerOf, part-settled, Moves, laid-step}
 use Rattle.state.proofs.Showing.{Shows, shows}
@@ -26,9 +26,9 @@ range-fits o n e = ltb-false 1024 (o + n) (failed 10 (beyond 1024 o n) _ e)
 
 module _ (t : Tables) (k : Valid (stateOf t)) (e : tables (stateOf t) ≡ t) where
   shared-write-moves : (o : ℕ) (v : List ℕ) → Moves t (replaceShared t (sets (t .shared) o v)) (sharedWrite o v) (length v) []
-  unfolding effect number shown stateOf
+  unfolding effect move apply number shown stateOf
   shared-write-moves o v =
-      record { leaves = λ r. with-shared t k e (sets (t .shared) o v); answers = λ r. refl; shows = λ r. refl }
+      record { leaves = λ r. shared-bytes t k e o v; answers = λ r. refl; shows = λ r. refl }
 
   pub shared-write-step : (o : ℕ) (v : List ℕ) (used : ℕ) → laid (step (stateOf t) (sharedWrite o v) used)
       ≡ record {
@@ -42,7 +42,7 @@ module _ (t : Tables) (k : Valid (stateOf t)) (e : tables (stateOf t) ≡ t) whe
 
   pub shared-read-step : (o n : ℕ) (output : List ℕ) (used : ℕ)
       → Shows t (sharedRead o n) used (sharedReadAnswer o n) output (sharedReadOutput (t .shared) output o n)
-  unfolding sharedReadAnswer sharedReadOutput effect number shown refusal tests sharedRefusal stateOf
+  unfolding sharedReadAnswer sharedReadOutput effect move apply number shown refusal tests sharedRefusal stateOf
   shared-read-step o n output used =
       shows t used n (part (t .shared) o n) output (sharedRead o n) e
       (record { leaves = λ r. e; answers = λ r. refl; shows = λ r. refl })
