@@ -28,7 +28,7 @@ fn with_used(change: Change, used: usize) -> Change
 }
 
 // Whether the lent buffers are of their sizes and the box is sound.
-fn is_ready(
+pub fn is_ready(
     b: BoxRecord,
     log: LogTable,
     escrow: EscrowTable,

@@ -14,12 +14,6 @@ pub fn escrow_row_at(rows: &[EscrowRow], i: usize) -> EscrowRow
     rows[i]
 }
 
-pub fn escrow_count(rows: &[EscrowRow]) -> usize
-    ensures { λ r. ⌜ r ≡ length (now (rows .entry)) ⌝ }
-{
-    rows.len()
-}
-
 pub fn put_escrow_row(rows: &mut [EscrowRow], at: usize, row: EscrowRow)
     requires { ⌜ at < length (now rows) ⌝ }
     ensures { λ _. ⌜ now (rows .exit) ≡ set (now (rows .entry)) at row ⌝ }

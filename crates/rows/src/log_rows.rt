@@ -14,12 +14,6 @@ pub fn log_row_at(rows: &[LogRow], i: usize) -> LogRow
     rows[i]
 }
 
-pub fn log_count(rows: &[LogRow]) -> usize
-    ensures { λ r. ⌜ r ≡ length (now (rows .entry)) ⌝ }
-{
-    rows.len()
-}
-
 pub fn put_log_row(rows: &mut [LogRow], at: usize, row: LogRow)
     requires { ⌜ at < length (now rows) ⌝ }
     ensures { λ _. ⌜ now (rows .exit) ≡ set (now (rows .entry)) at row ⌝ }

@@ -106,31 +106,7 @@ use Rattle.caif.proofs.caif_call.Code as code
 use Rattle.caif.proofs.caif_call.Code.Mir as mir
 
 abbrev stayed : Stays (self.ended .signature .params) (self.ended .kept)
-stayed = (
-  stay-dropped (plain (λ _. B.the-row)) yes,
-  (
-    gave-slice (0 ∷ []) tt (plain (λ _. T.the-row)),
-    (
-      gave-slice (1 ∷ []) tt (plain (λ _. U.the-row)),
-      (
-        gave-slice (2 ∷ []) tt (plain (λ _. u8)),
-        (
-          gave-slice (3 ∷ []) tt (plain (λ _. u8)),
-          (
-            gave-slice (4 ∷ []) tt (plain (λ _. u8)),
-            (
-              gave-slice (5 ∷ []) tt (plain (λ _. u8)),
-              (
-                gave-slice (6 ∷ []) tt (plain (λ _. u8)),
-                (stay-dropped (shrSliceOf (7 ∷ []) tt (plain (λ _. u8))) yes, tt),
-              ),
-            ),
-          ),
-        ),
-      ),
-    ),
-  ),
-)
+stayed = (stay-dropped (plain (λ _. B.the-row)) yes, (gave-slice (0 ∷ []) tt (plain (λ _. T.the-row)), (gave-slice (1 ∷ []) tt (plain (λ _. U.the-row)), (gave-slice (2 ∷ []) tt (plain (λ _. u8)), (gave-slice (3 ∷ []) tt (plain (λ _. u8)), (gave-slice (4 ∷ []) tt (plain (λ _. u8)), (gave-slice (5 ∷ []) tt (plain (λ _. u8)), (gave-slice (6 ∷ []) tt (plain (λ _. u8)), (stay-dropped (shrSliceOf (7 ∷ []) tt (plain (λ _. u8))) yes, tt)))))))))
 
 -- the lent byte buffers and the record's bytes
 abbrev Buffers : Type 0
@@ -247,19 +223,7 @@ module _ {M : Type 1} (𝓤 : URA M) (H : Heap 𝓤) (A : Atoms 𝓤) (W : Given
       → ent 𝓤 (⋆ 𝓤 H A (‵ (finally T.the-row γ₀ zs₀) ∷ ‵ (flft κ₀ q₀) ∷ ‵ (finally U.the-row γ₁ zs₁) ∷ ‵ (flft κ₁ q₁) ∷ Toks ∷ ‵ (Fins ws) ∷ [])) (Post (LL.val R.the-type R′.the-laws r))
   exits r zs₀ zs₁ ws len₀ len₁ lens e is =
       qed W (‵ (finally T.the-row γ₀ zs₀) ∷ ‵ (flft κ₀ q₀) ∷ ‵ (finally U.the-row γ₁ zs₁) ∷ ‵ (flft κ₁ q₁) ∷ Toks ∷ ‵ (Fins ws) ∷ []) ∵
-      suffices ! _ (ends-at 𝓤 H A self.ended stayed (self.clauses 𝓤 H A mem run) W (
-        (
-          ((κ₀, (κ₁, κs))),
-          (
-            q₀,
-            (q₁, qs),
-          ),
-          tt,
-          a,
-          vals,
-        ),
-        tt,
-      ) (LL.val R.the-type R′.the-laws r) r (tt, (zs₀, (zs₁, ws))) (tt, (len₀, (len₁, lens)))) $
+      suffices ! _ (ends-at 𝓤 H A self.ended stayed (self.clauses 𝓤 H A mem run) W ((((κ₀, (κ₁, κs))), (q₀, (q₁, qs)), tt, a, vals), tt) (LL.val R.the-type R′.the-laws r) r (tt, (zs₀, (zs₁, ws))) (tt, (len₀, (len₁, lens)))) $
       says ! e $
       move ! (3 ∷ 4 ∷ []) $ join ! $ move ! (2 ∷ 0 ∷ []) $ join ! $ frame ! $
       -- [log's last list; escrow's; the buffers']
@@ -365,16 +329,7 @@ module _ {M : Type 1} (𝓤 : URA M) (H : Heap 𝓤) (A : Atoms 𝓤) (W : Given
 
   -- ---- the calls of `edit_log` and `edit_escrow`
   abbrev to-al : Change → EditLog 𝓤 H A mem run .Ghost
-  to-al r = (
-    (
-      (κ₀, tt),
-      (q₀, tt),
-      tt,
-      (x₀ γ₀ ys₀, (r .edits .log .put, (r .edits .log .at, (r .edits .log .row, tt)))),
-      (s₀ ∷ [], (vbool (r .edits .log .put) ∷ [], (vint w64 (r .edits .log .at) ∷ [], (LL.vals T.the-type T′.the-laws (r .edits .log .row), tt)))),
-    ),
-    tt,
-  )
+  to-al r = (((κ₀, tt), (q₀, tt), tt, (x₀ γ₀ ys₀, (r .edits .log .put, (r .edits .log .at, (r .edits .log .row, tt)))), (s₀ ∷ [], (vbool (r .edits .log .put) ∷ [], (vint w64 (r .edits .log .at) ∷ [], (LL.vals T.the-type T′.the-laws (r .edits .log .row), tt))))), tt)
 
   log-row-makes : (x : LogRow) (vs : List Val) → Is T.the-row x vs → ent 𝓤 (emp 𝓤) (sem 𝓤 H A (T.the-row .own x vs))
   log-row-makes = LL.makes T.the-type T′.the-plain 𝓤 H A
@@ -394,16 +349,7 @@ module _ {M : Type 1} (𝓤 : URA M) (H : Heap 𝓤) (A : Atoms 𝓤) (W : Given
       owned ! Boolean (Is Boolean) (bool-makes 𝓤 H A W) (r .edits .log .put) _ refl $ fjoin ! $ move ! (1 ∷ 0 ∷ []) $ fjoin ! $ done !
 
   abbrev to-ae : Change → EditEscrow 𝓤 H A mem run .Ghost
-  to-ae r = (
-    (
-      (κ₁, tt),
-      (q₁, tt),
-      tt,
-      (x₁ γ₁ ys₁, (r .edits .escrow .put, (r .edits .escrow .at, (r .edits .escrow .row, tt)))),
-      (s₁ ∷ [], (vbool (r .edits .escrow .put) ∷ [], (vint w64 (r .edits .escrow .at) ∷ [], (LL.vals U.the-type U′.the-laws (r .edits .escrow .row), tt)))),
-    ),
-    tt,
-  )
+  to-ae r = (((κ₁, tt), (q₁, tt), tt, (x₁ γ₁ ys₁, (r .edits .escrow .put, (r .edits .escrow .at, (r .edits .escrow .row, tt)))), (s₁ ∷ [], (vbool (r .edits .escrow .put) ∷ [], (vint w64 (r .edits .escrow .at) ∷ [], (LL.vals U.the-type U′.the-laws (r .edits .escrow .row), tt))))), tt)
 
   escrow-row-makes : (x : EscrowRow) (vs : List Val) → Is U.the-row x vs → ent 𝓤 (emp 𝓤) (sem 𝓤 H A (U.the-row .own x vs))
   escrow-row-makes = LL.makes U.the-type U′.the-plain 𝓤 H A
@@ -497,25 +443,16 @@ module _ {M : Type 1} (𝓤 : URA M) (H : Heap 𝓤) (A : Atoms 𝓤) (W : Given
       edits-escrow r ws zs₀ lens st is len₀ ez₀ =
           -- [what log has; its token; what escrow owns; its token; the other tokens; the buffers' last lists; _33 at 6; … _29 at 14; … _12 at 48; … _0 at 72]
           assigns ! (addr ! (from ! (fld ! refl (hop ! (look-in ! 66 (sub ! 0 refl (whole !))) (stop !))))) (from ! (stop !)) (init ! 8 refl (tt, tt)) $
-          assigns ! (agg ! (and-then ! (load ! (from ! (stop !)) (look ! 8 refl)) (and-then ! (load ! (from ! (fld ! refl (stop !))) (look-in ! 66 (sub ! 1 refl (whole !)))) (no-more !)))) (from ! (stop !)) (init ! 6 refl (
-            tt,
-            (tt, (record { fits = room₁ .0 }, tt)),
-          )) $
+          assigns ! (agg ! (and-then ! (load ! (from ! (stop !)) (look ! 8 refl)) (and-then ! (load ! (from ! (fld ! refl (stop !))) (look-in ! 66 (sub ! 1 refl (whole !)))) (no-more !)))) (from ! (stop !)) (init ! 6 refl (tt, (tt, (record { fits = room₁ .0 }, tt)))) $
           move ! (3 ∷ 2 ∷ []) $ use2 W (raw (EditEscrow 𝓤 H A mem run .pre (to-ae r))) (goes-ae r is (st .escrowFits)) $
           calls-at ! fm (EditEscrow 𝓤 H A mem run) known-ae (to-ae r) (and-then ! (load ! (from ! (stop !)) (look ! 5 refl))
           (and-then ! (load ! (from ! (fld ! refl (fld ! refl (fld ! refl (stop !))))) (look-in ! 47 (sub ! 0 refl (sub ! 1 refl (sub ! 1 refl (whole !))))))
           (and-then ! (load ! (from ! (fld ! refl (fld ! refl (fld ! refl (stop !))))) (look-in ! 47 (sub ! 1 refl (sub ! 1 refl (sub ! 1 refl (whole !))))))
           (and-then ! (load ! (from ! (fld ! refl (fld ! refl (fld ! refl (stop !))))) (look-in ! 47 (sub ! 2 refl (sub ! 1 refl (sub ! 1 refl (whole !)))))) (no-more !))))) (λ u.
-          use1 W (later (some (λ (t : Unit {0}). ((‵ (flft κ₁ q₁) ⊛ ‵ ftrue) ⊛ ‵ (Nothing .own t (u ∷ []))) ⊛ raw (ensured 𝓤 H A ae.ended (ae.clauses 𝓤 H A mem run) (κ₁, tt) (
-            x₁ γ₁ ys₁,
-            (r .edits .escrow .put, (r .edits .escrow .at, (r .edits .escrow .row, tt))),
-          ) tt t)))) (id⊢ 𝓤 _) $
+          use1 W (later (some (λ (t : Unit {0}). ((‵ (flft κ₁ q₁) ⊛ ‵ ftrue) ⊛ ‵ (Nothing .own t (u ∷ []))) ⊛ raw (ensured 𝓤 H A ae.ended (ae.clauses 𝓤 H A mem run) (κ₁, tt) (x₁ γ₁ ys₁, (r .edits .escrow .put, (r .edits .escrow .at, (r .edits .escrow .row, tt)))) tt t)))) (id⊢ 𝓤 _) $
           await ! tt $ pick ! (λ t.
           split ! $ move ! (1 ∷ []) $
-          use1 W (some (λ (zs : List EscrowRow × (Unit {0} × (Unit {0} × (Unit {0} × Unit {0})))). ‵ (lasts ae.ended (κ₁, tt) (
-            x₁ γ₁ ys₁,
-            (r .edits .escrow .put, (r .edits .escrow .at, (r .edits .escrow .row, tt))),
-          ) zs) ⊛ raw (fact 𝓤 (zs .0 ≡ escrowEdited (r .edits .escrow) ys₁)))) (id⊢ 𝓤 _) $
+          use1 W (some (λ (zs : List EscrowRow × (Unit {0} × (Unit {0} × (Unit {0} × Unit {0})))). ‵ (lasts ae.ended (κ₁, tt) (x₁ γ₁ ys₁, (r .edits .escrow .put, (r .edits .escrow .at, (r .edits .escrow .row, tt)))) zs) ⊛ raw (fact 𝓤 (zs .0 ≡ escrowEdited (r .edits .escrow) ys₁)))) (id⊢ 𝓤 _) $
           pick ! (λ zs.
           split ! $ move ! (1 ∷ []) $ heard ! (zs .0 ≡ escrowEdited (r .edits .escrow) ys₁) (λ ez. fsplit ! $ fsplit ! $ move ! (1 ∷ []) $
           feqL ! (λ len. move ! (2 ∷ []) $ split ! $ move ! (1 ∷ []) $ peeks ! Nothing (Is Nothing) (shows 𝓤 H A Nothing) t (u ∷ []) (λ isu.
@@ -529,28 +466,16 @@ module _ {M : Type 1} (𝓤 : URA M) (H : Heap 𝓤) (A : Atoms 𝓤) (W : Given
       edits-log r ws lens st is =
           -- [what log has; its token; what escrow owns; its token; the other tokens; the buffers' last lists; _33 at 6; … _29 at 14; … _12 at 48; … _0 at 72]
           assigns ! (addr ! (from ! (fld ! refl (hop ! (look-in ! 68 (sub ! 0 refl (whole !))) (stop !))))) (from ! (stop !)) (init ! 12 refl (tt, tt)) $
-          assigns ! (agg ! (and-then ! (load ! (from ! (stop !)) (look ! 12 refl)) (and-then ! (load ! (from ! (fld ! refl (stop !))) (look-in ! 68 (sub ! 1 refl (whole !)))) (no-more !)))) (from ! (stop !)) (init ! 10 refl (
-            tt,
-            (tt, (record { fits = room₀ .0 }, tt)),
-          )) $
+          assigns ! (agg ! (and-then ! (load ! (from ! (stop !)) (look ! 12 refl)) (and-then ! (load ! (from ! (fld ! refl (stop !))) (look-in ! 68 (sub ! 1 refl (whole !)))) (no-more !)))) (from ! (stop !)) (init ! 10 refl (tt, (tt, (record { fits = room₀ .0 }, tt)))) $
           move ! (1 ∷ 0 ∷ []) $ use2 W (raw (EditLog 𝓤 H A mem run .pre (to-al r))) (goes-al r is (st .logFits)) $
           calls-at ! fm (EditLog 𝓤 H A mem run) known-al (to-al r) (and-then ! (load ! (from ! (stop !)) (look ! 9 refl))
           (and-then ! (load ! (from ! (fld ! refl (fld ! refl (fld ! refl (stop !))))) (look-in ! 47 (sub ! 0 refl (sub ! 0 refl (sub ! 1 refl (whole !))))))
           (and-then ! (load ! (from ! (fld ! refl (fld ! refl (fld ! refl (stop !))))) (look-in ! 47 (sub ! 1 refl (sub ! 0 refl (sub ! 1 refl (whole !))))))
           (and-then ! (load ! (from ! (fld ! refl (fld ! refl (fld ! refl (stop !))))) (look-in ! 47 (sub ! 2 refl (sub ! 0 refl (sub ! 1 refl (whole !)))))) (no-more !))))) (λ u.
-          use1 W (later (some (λ (t : Unit {0}). ((‵ (flft κ₀ q₀) ⊛ ‵ ftrue) ⊛ ‵ (Nothing .own t (u ∷ []))) ⊛ raw (ensured 𝓤 H A al.ended (al.clauses 𝓤 H A mem run) (κ₀, tt) (
-            x₀ γ₀ ys₀,
-            (r .edits .log .put, (r .edits .log .at, (r .edits .log .row, tt))),
-          ) tt t)))) (id⊢ 𝓤 _) $
+          use1 W (later (some (λ (t : Unit {0}). ((‵ (flft κ₀ q₀) ⊛ ‵ ftrue) ⊛ ‵ (Nothing .own t (u ∷ []))) ⊛ raw (ensured 𝓤 H A al.ended (al.clauses 𝓤 H A mem run) (κ₀, tt) (x₀ γ₀ ys₀, (r .edits .log .put, (r .edits .log .at, (r .edits .log .row, tt)))) tt t)))) (id⊢ 𝓤 _) $
           await ! tt $ pick ! (λ t.
           split ! $ move ! (1 ∷ []) $
-          use1 W (some (λ (zs : List LogRow × (Unit {0} × (Unit {0} × (Unit {0} × Unit {0})))). ‵ (lasts al.ended (κ₀, tt) (
-            x₀ γ₀ ys₀,
-            (
-              r .edits .log .put,
-              (r .edits .log .at, (r .edits .log .row, tt)),
-            ),
-          ) zs) ⊛ raw (fact 𝓤 (zs .0 ≡ logEdited (r .edits .log) ys₀)))) (id⊢ 𝓤 _) $
+          use1 W (some (λ (zs : List LogRow × (Unit {0} × (Unit {0} × (Unit {0} × Unit {0})))). ‵ (lasts al.ended (κ₀, tt) (x₀ γ₀ ys₀, (r .edits .log .put, (r .edits .log .at, (r .edits .log .row, tt)))) zs) ⊛ raw (fact 𝓤 (zs .0 ≡ logEdited (r .edits .log) ys₀)))) (id⊢ 𝓤 _) $
           pick ! (λ zs.
           split ! $ move ! (1 ∷ []) $ heard ! (zs .0 ≡ logEdited (r .edits .log) ys₀) (λ ez. fsplit ! $ fsplit ! $ move ! (1 ∷ []) $
           feqL ! (λ len. move ! (2 ∷ []) $ split ! $ move ! (1 ∷ []) $ peeks ! Nothing (Is Nothing) (shows 𝓤 H A Nothing) t (u ∷ []) (λ isu.
@@ -600,30 +525,15 @@ module _ {M : Type 1} (𝓤 : URA M) (H : Heap 𝓤) (A : Atoms 𝓤) (W : Given
           assigns ! (of-opd ! (load ! (from ! (fld ! refl (stop !))) (look-in ! 68 (sub ! 1 refl (whole !))))) (from ! (stop !)) (init ! 38 refl (tt, record { fits = room₀ .0 })) $
           assigns ! (of-opd ! (load ! (from ! (fld ! refl (stop !))) (look-in ! 66 (sub ! 1 refl (whole !))))) (from ! (stop !)) (init ! 36 refl (tt, record { fits = room₁ .0 })) $
           assigns ! (addr ! (from ! (fld ! refl (hop ! (look-in ! 64 (sub ! 0 refl (whole !))) (stop !))))) (from ! (stop !)) (init ! 34 refl (tt, tt)) $
-          assigns ! (agg ! (and-then ! (load ! (from ! (stop !)) (look ! 34 refl)) (and-then ! (load ! (from ! (fld ! refl (stop !))) (look-in ! 64 (sub ! 1 refl (whole !)))) (no-more !)))) (from ! (stop !)) (init ! 32 refl (
-            tt,
-            (tt, (record { fits = rooms .0 .0 }, tt)),
-          )) $
+          assigns ! (agg ! (and-then ! (load ! (from ! (stop !)) (look ! 34 refl)) (and-then ! (load ! (from ! (fld ! refl (stop !))) (look-in ! 64 (sub ! 1 refl (whole !)))) (no-more !)))) (from ! (stop !)) (init ! 32 refl (tt, (tt, (record { fits = rooms .0 .0 }, tt)))) $
           assigns ! (addr ! (from ! (fld ! refl (hop ! (look-in ! 62 (sub ! 0 refl (whole !))) (stop !))))) (from ! (stop !)) (init ! 30 refl (tt, tt)) $
-          assigns ! (agg ! (and-then ! (load ! (from ! (stop !)) (look ! 30 refl)) (and-then ! (load ! (from ! (fld ! refl (stop !))) (look-in ! 62 (sub ! 1 refl (whole !)))) (no-more !)))) (from ! (stop !)) (init ! 28 refl (
-            tt,
-            (tt, (record { fits = rooms .1 .0 .0 }, tt)),
-          )) $
+          assigns ! (agg ! (and-then ! (load ! (from ! (stop !)) (look ! 30 refl)) (and-then ! (load ! (from ! (fld ! refl (stop !))) (look-in ! 62 (sub ! 1 refl (whole !)))) (no-more !)))) (from ! (stop !)) (init ! 28 refl (tt, (tt, (record { fits = rooms .1 .0 .0 }, tt)))) $
           assigns ! (addr ! (from ! (fld ! refl (hop ! (look-in ! 60 (sub ! 0 refl (whole !))) (stop !))))) (from ! (stop !)) (init ! 26 refl (tt, tt)) $
-          assigns ! (agg ! (and-then ! (load ! (from ! (stop !)) (look ! 26 refl)) (and-then ! (load ! (from ! (fld ! refl (stop !))) (look-in ! 60 (sub ! 1 refl (whole !)))) (no-more !)))) (from ! (stop !)) (init ! 24 refl (
-            tt,
-            (tt, (record { fits = rooms .1 .1 .0 .0 }, tt)),
-          )) $
+          assigns ! (agg ! (and-then ! (load ! (from ! (stop !)) (look ! 26 refl)) (and-then ! (load ! (from ! (fld ! refl (stop !))) (look-in ! 60 (sub ! 1 refl (whole !)))) (no-more !)))) (from ! (stop !)) (init ! 24 refl (tt, (tt, (record { fits = rooms .1 .1 .0 .0 }, tt)))) $
           assigns ! (addr ! (from ! (fld ! refl (hop ! (look-in ! 58 (sub ! 0 refl (whole !))) (stop !))))) (from ! (stop !)) (init ! 22 refl (tt, tt)) $
-          assigns ! (agg ! (and-then ! (load ! (from ! (stop !)) (look ! 22 refl)) (and-then ! (load ! (from ! (fld ! refl (stop !))) (look-in ! 58 (sub ! 1 refl (whole !)))) (no-more !)))) (from ! (stop !)) (init ! 20 refl (
-            tt,
-            (tt, (record { fits = rooms .1 .1 .1 .0 .0 }, tt)),
-          )) $
+          assigns ! (agg ! (and-then ! (load ! (from ! (stop !)) (look ! 22 refl)) (and-then ! (load ! (from ! (fld ! refl (stop !))) (look-in ! 58 (sub ! 1 refl (whole !)))) (no-more !)))) (from ! (stop !)) (init ! 20 refl (tt, (tt, (record { fits = rooms .1 .1 .1 .0 .0 }, tt)))) $
           assigns ! (addr ! (from ! (fld ! refl (hop ! (look-in ! 56 (sub ! 0 refl (whole !))) (stop !))))) (from ! (stop !)) (init ! 18 refl (tt, tt)) $
-          assigns ! (agg ! (and-then ! (load ! (from ! (stop !)) (look ! 18 refl)) (and-then ! (load ! (from ! (fld ! refl (stop !))) (look-in ! 56 (sub ! 1 refl (whole !)))) (no-more !)))) (from ! (stop !)) (init ! 16 refl (
-            tt,
-            (tt, (record { fits = rooms .1 .1 .1 .1 .0 .0 }, tt)),
-          )) $
+          assigns ! (agg ! (and-then ! (load ! (from ! (stop !)) (look ! 18 refl)) (and-then ! (load ! (from ! (fld ! refl (stop !))) (look-in ! 56 (sub ! 1 refl (whole !)))) (no-more !)))) (from ! (stop !)) (init ! 16 refl (tt, (tt, (record { fits = rooms .1 .1 .1 .1 .0 .0 }, tt)))) $
           calls lr rd is er rd′ is′
 
       reads-escrow : (lr : LogTable) → LogRead lr → Is L.the-row lr (LL.vals L.the-type L′.the-laws lr)
@@ -631,10 +541,7 @@ module _ {M : Type 1} (𝓤 : URA M) (H : Heap 𝓤) (A : Atoms 𝓤) (W : Given
       reads-escrow lr rd isl =
           -- [what log owns; its token; what escrow owns; its token; the other tokens; what the buffers own; _33 at 6; … _16 at 40; … _0 at 72]
           assigns ! (addr ! (from ! (fld ! refl (hop ! (look-in ! 66 (sub ! 0 refl (whole !))) (stop !))))) (from ! (stop !)) (init ! 42 refl (tt, tt)) $
-          assigns ! (agg ! (and-then ! (load ! (from ! (stop !)) (look ! 42 refl)) (and-then ! (load ! (from ! (fld ! refl (stop !))) (look-in ! 66 (sub ! 1 refl (whole !)))) (no-more !)))) (from ! (stop !)) (init ! 40 refl (
-            tt,
-            (tt, (record { fits = room₁ .0 }, tt)),
-          )) $
+          assigns ! (agg ! (and-then ! (load ! (from ! (stop !)) (look ! 42 refl)) (and-then ! (load ! (from ! (fld ! refl (stop !))) (look-in ! 66 (sub ! 1 refl (whole !)))) (no-more !)))) (from ! (stop !)) (init ! 40 refl (tt, (tt, (record { fits = room₁ .0 }, tt)))) $
           lft-new ! tt (λ ν. move ! (3 ∷ 4 ∷ []) $
           use2 W (later (some (λ (δ : GName). ‵ (ShrSlice (named 0) (ν ∷ []) U.the-row .own (x₁ δ ys₁) (s₁ ∷ [])) ⊛ ‵ (SharedAgain U.the-row κ₁ (ν ∷ []) q₁ γ₁ b₁ o₁ ys₁)))) (shares-again U.the-row κ₁ (ν ∷ []) q₁ γ₁ b₁ o₁ 𝓤 H A W (named 1) (named 0) ys₁) $
           await ! tt $ pick ! (λ δ. split ! $ move ! (2 ∷ 0 ∷ []) $ use2 W (raw (ReadEscrow 𝓤 H A mem run .pre (to-re ν δ))) (goes-re ν δ) $
@@ -658,10 +565,7 @@ module _ {M : Type 1} (𝓤 : URA M) (H : Heap 𝓤) (A : Atoms 𝓤) (W : Given
       reads-log =
           -- [what log owns; its token; what escrow owns; its token; the other tokens; what the buffers own; _33 at 6; … _14 at 44; … _0 at 72]
           assigns ! (addr ! (from ! (fld ! refl (hop ! (look-in ! 68 (sub ! 0 refl (whole !))) (stop !))))) (from ! (stop !)) (init ! 46 refl (tt, tt)) $
-          assigns ! (agg ! (and-then ! (load ! (from ! (stop !)) (look ! 46 refl)) (and-then ! (load ! (from ! (fld ! refl (stop !))) (look-in ! 68 (sub ! 1 refl (whole !)))) (no-more !)))) (from ! (stop !)) (init ! 44 refl (
-            tt,
-            (tt, (record { fits = room₀ .0 }, tt)),
-          )) $
+          assigns ! (agg ! (and-then ! (load ! (from ! (stop !)) (look ! 46 refl)) (and-then ! (load ! (from ! (fld ! refl (stop !))) (look-in ! 68 (sub ! 1 refl (whole !)))) (no-more !)))) (from ! (stop !)) (init ! 44 refl (tt, (tt, (record { fits = room₀ .0 }, tt)))) $
           lft-new ! tt (λ ν. move ! (1 ∷ 2 ∷ []) $
           use2 W (later (some (λ (δ : GName). ‵ (ShrSlice (named 0) (ν ∷ []) T.the-row .own (x₀ δ ys₀) (s₀ ∷ [])) ⊛ ‵ (SharedAgain T.the-row κ₀ (ν ∷ []) q₀ γ₀ b₀ o₀ ys₀)))) (shares-again T.the-row κ₀ (ν ∷ []) q₀ γ₀ b₀ o₀ 𝓤 H A W (named 0) (named 0) ys₀) $
           await ! tt $ pick ! (λ δ. split ! $ move ! (2 ∷ 0 ∷ []) $ use2 W (raw (ReadLog 𝓤 H A mem run .pre (to-rl ν δ))) (goes-rl ν δ) $
@@ -711,79 +615,16 @@ module _ {M : Type 1} (𝓤 : URA M) (H : Heap 𝓤) (A : Atoms 𝓤) (W : Given
       → Walks 𝓤 H A self.ended stayed (WpFn 𝓤 H C Λ code.function) (self.clauses 𝓤 H A mem run)
   self-walks C Λ fm k-rl k-re k-cc k-al k-ae = walked 𝓤 H A self.ended stayed (self.clauses 𝓤 H A mem run) (WpFn 𝓤 H C Λ code.function)
       (λ κs. (LL.vals B.the-type B′.the-laws, (slice-vals, (slice-vals, (slice-vals, (slice-vals, (slice-vals, (slice-vals, (slice-vals, (slice-vals, tt))))))))))
-      (λ κs. (
-        LL.tells B.the-type B′.the-laws,
-        (
-          mut-slice-tells (named 0) (κs .0) T.the-row,
-          (
-            mut-slice-tells (named 1) (κs .1 .0) U.the-row,
-            (
-              mut-slice-tells (named 2) (κs .1 .1 .0) u8,
-              (
-                mut-slice-tells (named 3) (κs .1 .1 .1 .0) u8,
-                (
-                  mut-slice-tells (named 4) (κs .1 .1 .1 .1 .0) u8,
-                  (
-                    mut-slice-tells (named 5) (κs .1 .1 .1 .1 .1 .0) u8,
-                    (
-                      mut-slice-tells (named 6) (κs .1 .1 .1 .1 .1 .1 .0) u8,
-                      (shr-slice-tells (named 7) (κs .1 .1 .1 .1 .1 .1 .1 .0) u8, tt),
-                    ),
-                  ),
-                ),
-              ),
-            ),
-          ),
-        ),
-      ))
+      (λ κs. (LL.tells B.the-type B′.the-laws, (mut-slice-tells (named 0) (κs .0) T.the-row, (mut-slice-tells (named 1) (κs .1 .0) U.the-row, (mut-slice-tells (named 2) (κs .1 .1 .0) u8, (mut-slice-tells (named 3) (κs .1 .1 .1 .0) u8, (mut-slice-tells (named 4) (κs .1 .1 .1 .1 .0) u8, (mut-slice-tells (named 5) (κs .1 .1 .1 .1 .1 .0) u8, (mut-slice-tells (named 6) (κs .1 .1 .1 .1 .1 .1 .0) u8, (shr-slice-tells (named 7) (κs .1 .1 .1 .1 .1 .1 .1 .0) u8, tt))))))))))
       (λ κs qs bounds a g are. via 𝓤 _ (fst∗ 𝓤 _ (emp 𝓤))
       (walk 𝓤 H A W mem run (κs .0) (κs .1 .0) (κs .1 .1) (qs .0) (qs .1 .0) (qs .1 .1) (a .0) (a .1 .0 .ptr .0) (a .1 .0 .ptr .1) (a .1 .0 .name) (a .1 .0 .now) (a .1 .1 .0 .ptr .0) (a .1 .1 .0 .ptr .1) (a .1 .1 .0 .name) (a .1 .1 .0 .now) (a .1 .1 .1)
-      (are .0) (are .1 .0 .0 .1) (are .1 .1 .0 .0 .1) (
-        are .1 .1 .1 .0 .0 .1,
-        (
-          are .1 .1 .1 .1 .0 .0 .1,
-          (
-            are .1 .1 .1 .1 .1 .0 .0 .1,
-            (
-              are .1 .1 .1 .1 .1 .1 .0 .0 .1,
-              (
-                are .1 .1 .1 .1 .1 .1 .1 .0 .0 .1,
-                (are .1 .1 .1 .1 .1 .1 .1 .1 .0 .0 .1, tt),
-              ),
-            ),
-          ),
-        ),
-      ) C Λ fm k-rl k-re k-cc k-al k-ae))
+      (are .0) (are .1 .0 .0 .1) (are .1 .1 .0 .0 .1) (are .1 .1 .1 .0 .0 .1, (are .1 .1 .1 .1 .0 .0 .1, (are .1 .1 .1 .1 .1 .0 .0 .1, (are .1 .1 .1 .1 .1 .1 .0 .0 .1, (are .1 .1 .1 .1 .1 .1 .1 .0 .0 .1, (are .1 .1 .1 .1 .1 .1 .1 .1 .0 .0 .1, tt)))))) C Λ fm k-rl k-re k-cc k-al k-ae))
 
 self-meets : {M : Type 1} (𝓤 : URA M) (H : Heap 𝓤) (A : Atoms 𝓤) (W : Given 𝓤 H A) (mem : Memory → SProp 𝓤) (run : Routine → Fun 𝓤) (𝓣 : Tables 𝓤 H)
     → Triple 𝓤 (𝓣 .C #rl) (ReadLog 𝓤 H A mem run) → Triple 𝓤 (𝓣 .C #re) (ReadEscrow 𝓤 H A mem run) → Triple 𝓤 (𝓣 .C #cc) (CallCounted 𝓤 H A mem run)
     → Triple 𝓤 (𝓣 .C #al) (EditLog 𝓤 H A mem run) → Triple 𝓤 (𝓣 .C #ae) (EditEscrow 𝓤 H A mem run)
     → Meets 𝓤 H A self.signature (WpFn 𝓤 H (𝓣 .C) (𝓣 .Λ) code.function) (self.spec 𝓤 H A mem run)
-self-meets 𝓤 H A W mem run 𝓣 k-rl k-re k-cc k-al k-ae = walk-meets 𝓤 H A self.ended stayed W (
-  goes-dropped 𝓤 H A W 8 (plain (λ _. B.the-row)) yes (λ κs x f. refl),
-  (
-    goes-gave-slice 𝓤 H A W 8 0 tt (plain (λ _. T.the-row)),
-    (
-      goes-gave-slice 𝓤 H A W 8 1 tt (plain (λ _. U.the-row)),
-      (
-        goes-gave-slice 𝓤 H A W 8 2 tt (plain (λ _. u8)),
-        (
-          goes-gave-slice 𝓤 H A W 8 3 tt (plain (λ _. u8)),
-          (
-            goes-gave-slice 𝓤 H A W 8 4 tt (plain (λ _. u8)),
-            (
-              goes-gave-slice 𝓤 H A W 8 5 tt (plain (λ _. u8)),
-              (
-                goes-gave-slice 𝓤 H A W 8 6 tt (plain (λ _. u8)),
-                (goes-dropped 𝓤 H A W 8 (shrSliceOf (7 ∷ []) tt (plain (λ _. u8))) yes (λ κs x f. refl), tt),
-              ),
-            ),
-          ),
-        ),
-      ),
-    ),
-  ),
-)
+self-meets 𝓤 H A W mem run 𝓣 k-rl k-re k-cc k-al k-ae = walk-meets 𝓤 H A self.ended stayed W (goes-dropped 𝓤 H A W 8 (plain (λ _. B.the-row)) yes (λ κs x f. refl), (goes-gave-slice 𝓤 H A W 8 0 tt (plain (λ _. T.the-row)), (goes-gave-slice 𝓤 H A W 8 1 tt (plain (λ _. U.the-row)), (goes-gave-slice 𝓤 H A W 8 2 tt (plain (λ _. u8)), (goes-gave-slice 𝓤 H A W 8 3 tt (plain (λ _. u8)), (goes-gave-slice 𝓤 H A W 8 4 tt (plain (λ _. u8)), (goes-gave-slice 𝓤 H A W 8 5 tt (plain (λ _. u8)), (goes-gave-slice 𝓤 H A W 8 6 tt (plain (λ _. u8)), (goes-dropped 𝓤 H A W 8 (shrSliceOf (7 ∷ []) tt (plain (λ _. u8))) yes (λ κs x f. refl), tt)))))))))
     (self.clauses 𝓤 H A mem run) (WpFn 𝓤 H (𝓣 .C) (𝓣 .Λ) code.function) (WpFn-mono 𝓤 H (W .laws) 𝓣 code.function) (self-walks 𝓤 H A W mem run (𝓣 .C) (𝓣 .Λ) (fmOf 𝓤 H (W .laws) 𝓣) k-rl k-re k-cc k-al k-ae)
 
 pub caif-call-spec : {M : Type 1} → stated.statement M
