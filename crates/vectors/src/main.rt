@@ -1,4 +1,4 @@
-// FNV-1a vectors of 64 bits, run on the proved library. `stdout` has their values (docs/DECISIONS.md, 3).
+// FNV-1a vectors of 64 bits, run on the proved library. `stdout` has their values (docs/DECISIONS.md, the vectors).
 ghost use mathlib.Core.Path.{_≡_};
 ghost use Rattle.vectors.specs.Lines.{lineOf};
 use libc::STDOUT_FILENO;

@@ -27,7 +27,7 @@ fn case(bytes: &[u8], hash: u64) -> Case {
 }
 
 /// 64-bit FNV-1a vectors of the list that comes with FNV's source, written from memory and kept where a computation of
-/// FNV-1a agreed (docs/DECISIONS.md, 3).
+/// FNV-1a agreed (docs/DECISIONS.md, the vectors).
 const VECTORS: [(&[u8], u64); 64] = [
     (b"chongo w", 0xd1ed_d10b_5073_44d0),
     (b"chongo wa", 0x2a5e_e739_b3dd_b8c3),
