@@ -5,7 +5,7 @@ ghost use Prim.Native.Nat.{ℕ, _/_, _^_, _≤_};
 ghost use lib.ListN.{length, take};
 ghost use Rattle.ideal.specs.Tables.{escrowTable, entriesOf};
 ghost use Rattle.ideal.specs.Soundness.{sameHandle};
-ghost use Rattle.soundness.specs.Tests.{rowSound, allRows, differBefore, escrowRowRight, escrowSound};
+ghost use Rattle.soundness.specs.Tests.{rowSound, bytesAndRows, differBefore, escrowRowRight, escrowSound};
 use buffers::all_zero;
 use handles::handle_in;
 use ideal::EscrowRow;
@@ -38,12 +38,15 @@ fn row_sound(row: EscrowRow, at: usize) -> bool
     length_of(row.handle) == row.length as u64
 }
 
-// Whether the first n rows are right and follow each other, from 0 to `end`, and the rest are blank: both loops in one function,
-// as in the log.
-fn rows_sound(rows: [EscrowRow; 64], n: usize, end: usize) -> bool
-    requires { ⌜ n ≤ 64 ⌝ }
-    ensures { λ r. ⌜ r ≡ allRows escrowTable escrowRowRight n end rows ⌝ }
+// Whether the value bytes from `end` on are 0, the first n rows right and one after the other, from 0 to `end`, and the rest
+// blank: in one function, as in the log.
+fn rows_sound(rows: [EscrowRow; 64], n: usize, end: usize, values: &[u8]) -> bool
+    requires { ⌜ (n ≤ 64) × (end ≤ length (now values)) ⌝ }
+    ensures { λ r. ⌜ r ≡ bytesAndRows escrowTable escrowRowRight n end rows (now (values .entry)) ⌝ }
 {
+    if !all_zero(&values[end..]) {
+        return false;
+    }
     let mut at: usize = 0;
     let mut i: usize = 0;
     while i < n {
@@ -101,10 +104,7 @@ pub fn escrow_sound(rows: [EscrowRow; 64], values: &[u8], used: Used) -> bool
     }
     let n = used.rows as usize;
     let end = used.bytes as usize;
-    if !rows_sound(rows, n, end) {
-        return false;
-    }
-    if !all_zero(&values[end..]) {
+    if !rows_sound(rows, n, end, values) {
         return false;
     }
     // Asked first, because the rows are copied for the loop.

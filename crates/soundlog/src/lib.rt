@@ -5,7 +5,7 @@ ghost use Prim.Native.Nat.{_≤_};
 ghost use lib.ListN.{length, take};
 ghost use Rattle.ideal.specs.Tables.{logTable, entriesOf};
 ghost use Rattle.ideal.specs.Fit.{RowsFit};
-ghost use Rattle.soundness.specs.Tests.{rowSound, allRows, differBefore, logRowRight, sameLogged, logSound};
+ghost use Rattle.soundness.specs.Tests.{rowSound, bytesAndRows, differBefore, logRowRight, sameLogged, logSound};
 use buffers::all_zero;
 use fnv::tag_of;
 use ideal::LogRow;
@@ -34,13 +34,17 @@ fn row_sound(row: LogRow, at: usize, values: &[u8]) -> bool
     row.tag.0 == tag.0
 }
 
-// Whether the first n rows are right and follow each other, from 0 to `end`, and the rest are blank. Both loops are in one
-// function, because the rows are copied for each function that has a loop over them. The bits of blank rows are joined with no
-// way out of the loop, each field by itself, so that one join need not wait for another; first and length are read as one.
+// Whether the value bytes from `end` on are 0, the first n rows right and one after the other, from 0 to `end`, and the rest
+// blank. In one function, because the rows are copied as a function begins that has a loop over them; the bytes first, because
+// rows that were just copied are slow to read. The bits of blank rows are joined with no way out of the loop, each field by
+// itself, so that one join need not wait for another; first and length are read as one.
 fn rows_sound(rows: [LogRow; 64], n: usize, end: usize, values: &[u8]) -> bool
-    requires { ⌜ n ≤ 64 ⌝ }
-    ensures { λ r. ⌜ r ≡ allRows logTable (logRowRight (now (values .entry))) n end rows ⌝ }
+    requires { ⌜ (n ≤ 64) × (end ≤ length (now values)) ⌝ }
+    ensures { λ r. ⌜ r ≡ bytesAndRows logTable (logRowRight (now (values .entry))) n end rows (now (values .entry)) ⌝ }
 {
+    if !all_zero(&values[end..]) {
+        return false;
+    }
     let mut at: usize = 0;
     let mut i: usize = 0;
     while i < n {
@@ -100,9 +104,6 @@ pub fn log_sound(rows: [LogRow; 64], values: &[u8], used: Used) -> bool
     let n = used.rows as usize;
     let end = used.bytes as usize;
     if !rows_sound(rows, n, end, values) {
-        return false;
-    }
-    if !all_zero(&values[end..]) {
         return false;
     }
     // Asked first, because the rows are copied for the loop.

@@ -15,11 +15,11 @@ use Rattle.ideal.specs.declared.LogRow.{LogRow}
 use Rattle.ideal.specs.declared.EscrowRow.{EscrowRow}
 use Rattle.ideal.specs.State.{Entry, every}
 use Rattle.ideal.specs.Tables.{RowsOf, logTable, escrowTable, entryOf, entriesOf}
-use Rattle.ideal.specs.Soundness.{chained, short}
+use Rattle.ideal.specs.Soundness.{allZero, chained, short}
 use Rattle.ideal.proofs.Bools.{and-left, and-right, and-true, and-nil, and-assoc}
 use Rattle.ideal.proofs.Facts.{and-swap}
 use Rattle.buffers.proofs.Loops.{joined, one-on}
-use Rattle.soundness.specs.Tests.{rowSound, rowsSound, allRows, logBits, escrowBits}
+use Rattle.soundness.specs.Tests.{rowSound, rowsSound, bytesAndRows, logBits, escrowBits}
 
 -- one element on
 pub every-step : {A : Type 0} (p : A → Bool) (l : List A) (d : A) (i : ℕ) → i < length l
@@ -84,15 +84,15 @@ module _ {Row Key : Type 0} (t : RowsOf Row Key) where
     unfolding rowSound
     right-short at r h = leb-true _ _ (and-left (leb (t .size r) 256) _ (and-right (eqb (t .first r) at) _ h))
 
-    -- behind the first n rows, their end and the blank rows are left to be tested
-    pub rows-ended : (end at : ℕ) (rows : List Row) (n i : ℕ) → i ≡ n → n ≤ length rows
+    -- behind the first n rows, where the bytes are zero: their end and the blank rows are left to be tested
+    pub rows-ended : (end at : ℕ) (rows : List Row) (values : List ℕ) (n i : ℕ) → i ≡ n → n ≤ length rows → allZero (drop end values) ≡ true
         → rowsSound t right end at (drop i (take n rows)) ≡ rowsSound t right end 0 (take n rows)
-        → eqb at end && every (t .isBlank) (drop i rows) ≡ allRows t right n end rows
-    unfolding rowsSound allRows
-    rows-ended end at rows n i e q h =
+        → eqb at end && every (t .isBlank) (drop i rows) ≡ bytesAndRows t right n end rows values
+    unfolding rowsSound bytesAndRows
+    rows-ended end at rows values n i e q z h =
         let l : i ≡ length (take n rows) = simp length-take (omega arith) in
         let k : eqb at end ≡ rowsSound t right end 0 (take n rows) = rw (l, drop-length (take n rows)) at h in
-        rw (k, e)
+        rw (z, k, e)
 
     -- the clauses apart
     pub rows-clauses : (end at : ℕ) (rs : List Row)

@@ -42,9 +42,10 @@ module _ {Row Key : Type 0} (t : RowsOf Row Key) where
   rowsSound right end at [] = eqb at end
   rowsSound right end at (r ∷ rs) = rowSound right at r && rowsSound right end (at + t .size r) rs
 
-  -- the first n rows such, and the rest blank
-  unfoldable pub allRows : (right : Row → Bool) → (n end : ℕ) → List Row → Bool
-  allRows right n end rows = rowsSound right end 0 (take n rows) && every (t .isBlank) (drop n rows)
+  -- the value bytes from `end` on zero, the first n rows such, and the rest blank
+  unfoldable pub bytesAndRows : (right : Row → Bool) → (n end : ℕ) → List Row → List ℕ → Bool
+  bytesAndRows right n end rows values =
+      allZero (drop end values) && (rowsSound right end 0 (take n rows) && every (t .isBlank) (drop n rows))
 
   unfoldable pub tableSound : (right : Row → Bool) → (same : Entry Key → Entry Key → Bool) → List Row → List ℕ → Used → Bool
   tableSound right same rows values used =
@@ -53,8 +54,7 @@ module _ {Row Key : Type 0} (t : RowsOf Row Key) where
       pass
       (leb n 64
       and leb end 4096
-      and allRows right n end rows
-      and allZero (drop end values)
+      and bytesAndRows right n end rows values
       and differBefore same [] (entriesOf t values (take n rows))
       and done)
 
