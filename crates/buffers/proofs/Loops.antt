@@ -1,4 +1,4 @@
--- Loops over bytes and rows: what one turn adds. Assumes nothing.
+-- Loops over bytes: what one turn adds. Assumes nothing.
 use Prim.Native.Nat.{ℕ, zero, suc, _+_, _-_, _≤_, _<_}
 use mathlib.Core.Path.{_≡_, refl, ap, sym, _∙_}
 use mathlib.Core.Bool.{false, _&&_}
@@ -8,13 +8,12 @@ use native.Mathlib.Nat.{zero-add, add-sub-cancel-left}
 use native.Mathlib.Numerals.{add-one}
 use lib.Bits.{bitOr, or-add-and, or-zero-l, and-le-r}
 use lib.Dec.{eqb}
-use lib.ListN.{length, getD, take, drop, set, drop-of-length-le, length-take, length-drop, take-append-drop}
-use lib.Seq.{drop-cons, take-all, getD-take, paste-suc, sets, sets-eq, drop-drop}
+use lib.ListN.{length, getD, take, drop, set, drop-of-length-le, length-drop, take-append-drop}
+use lib.Seq.{drop-cons, take-all, paste-suc, sets, sets-eq, drop-drop}
 use borrow.Author.Tests.{ne-eqb}
-use Rattle.ideal.specs.State.{every, sameBytes}
-use Rattle.ideal.specs.Soundness.{allZero}
-use Rattle.ideal.proofs.Bools.{and-false}
-use Rattle.ideal.proofs.Lists.{every-append}
+use Rattle.lists.specs.Lists.{every, sameBytes, allZero}
+use Rattle.lists.proofs.Bools.{and-false}
+use Rattle.lists.proofs.Lists.{every-append}
 
 -- ---- bytes joined by `|`
 
@@ -71,12 +70,3 @@ part-replaced l v a n e h = let f : a + length v ≤ length l = omega arith in r
 -- a copy over the whole part leaves nothing of it
 pub copied-whole : (v p : List ℕ) → length p ≤ length v → v ++ drop (length v) p ≡ v
 copied-whole v p h = rw (drop-of-length-le p h, append-nil v)
-
--- ---- rows
-
--- what is left of the first n, one on
-pub one-on : {A : Type 0} (l : List A) (n i : ℕ) (d : A) → i < n → n ≤ length l
-    → drop i (take n l) ≡ getD l i d ∷ drop (i + 1) (take n l)
-one-on l n i d p q =
-    let h : i < length (take n l) = simp length-take (omega arith) in
-    rw (add-one i, drop-cons (take n l) i d h, getD-take n l i d p)

@@ -1,11 +1,11 @@
-// Loops over lent bytes.
+// Lent bytes: whether they are 0, or the same; copied, put, shown and cleared; and whether a range goes beyond a limit.
 ghost use mathlib.Core.Path.{_≡_};
 ghost use Prim.Native.Nat.{_+_, _≤_};
-ghost use lib.ListN.{length, replicate, drop};
+ghost use lib.Dec.{ltb};
+ghost use lib.ListN.{length, replicate, take, drop};
 ghost use lib.Seq.{sets};
 ghost use mathlib.Core.List.{_++_};
-ghost use Rattle.ideal.specs.State.{sameBytes};
-ghost use Rattle.ideal.specs.Soundness.{allZero};
+ghost use Rattle.lists.specs.Lists.{sameBytes, allZero};
 
 // Whether the bytes are 0: joined by `|`, with no way out of the loop, so that it is compiled to vector code.
 fn part_zero(s: &[u8]) -> bool
@@ -71,6 +71,25 @@ pub fn put(src: &[u8], dst: &mut [u8], start: usize)
 {
     let end = start + src.len();
     copy(src, &mut dst[start..end]);
+}
+
+// Whether size bytes from offset on go beyond a limit. Nothing is added, so that nothing wraps, however long the bytes are.
+pub fn beyond(limit: usize, offset: u16, size: usize) -> bool
+    ensures { λ r. ⌜ r ≡ ltb limit (offset + size) ⌝ }
+{
+    if size > limit {
+        return true;
+    }
+    offset as usize > limit - size
+}
+
+// size bytes of a memory, from start on, over the front of the output buffer.
+pub fn show(memory: &[u8], output: &mut [u8], start: usize, size: u16)
+    requires { ⌜ (start + size ≤ length (now memory)) × (size ≤ length (now output)) ⌝ }
+    ensures { λ _. ⌜ now (output .exit) ≡ take size (drop start (now (memory .entry))) ++ drop size (now (output .entry)) ⌝ }
+{
+    let end = start + size as usize;
+    copy(&memory[start..end], output);
 }
 
 pub fn clear(dst: &mut [u8])

@@ -1,6 +1,4 @@
-pub mod AddRow
 pub mod Arms
-pub mod Calling
-pub mod Names
-pub mod NewRows
+pub mod Counting
+pub mod EditRow
 pub mod ReadRows

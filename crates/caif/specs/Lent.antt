@@ -29,10 +29,7 @@ abbrev pub lentResult : LentReply → List LogRow → List EscrowRow → (heaps 
 lentResult r log escrow heaps shared logValues escrowValues output =
     record {
       tables = lentTables (r .held) log escrow heaps shared logValues escrowValues;
-      code = r .code;
-      number = r .number;
-      used = r .used;
-      shown = r .shown;
+      answer = r .answer;
       output = output;
     }
 

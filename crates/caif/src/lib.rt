@@ -1,5 +1,5 @@
 // The box for hosts in C: what include/caif.h declares.
-mod copied;
+mod counted;
 mod lent;
 mod writing;
 
@@ -7,27 +7,23 @@ ghost use mathlib.Core.Path.{_≡_};
 ghost use Rattle.ideal.specs.Tables.{freshTables};
 ghost use Rattle.calls.specs.Entry.{entryOn};
 ghost use Rattle.caif.specs.Lent.{lentTables, lentResult};
-use copied::call_copied;
+use counted::call_counted;
 use ideal::BoxRecord;
 use ideal::EscrowRow;
 use ideal::LogRow;
-use lent::add_escrow_row;
-use lent::add_log_row;
+use lent::edit_escrow;
+use lent::edit_log;
 use lent::read_escrow;
 use lent::read_log;
-use state::EscrowTable;
-use state::LogTable;
+use state::Answer;
 use state::fresh_record;
 pub use writing::caif_write;
 
-// An answer, with the box record as the call leaves it. shown is how many bytes stand at the front of the output buffer.
+// An answer, with the box record as the call leaves it.
 #[repr(C)]
 pub struct LentReply {
     pub held: BoxRecord,
-    pub code: u8,
-    pub number: u64,
-    pub used: usize,
-    pub shown: u16,
+    pub answer: Answer,
 }
 
 // What the writer answers: code is 0 where length says how long the record is, and else a refusal.
@@ -35,38 +31,6 @@ pub struct LentReply {
 pub struct WrittenReply {
     pub code: u8,
     pub length: usize,
-}
-
-// The lent rows of the log: a copy of them, where they are 64. The table comes first: at another place in the struct it is
-// moved once more.
-pub struct LentLog {
-    pub table: LogTable,
-    pub whole: bool,
-}
-
-pub struct LentEscrow {
-    pub table: EscrowTable,
-    pub whole: bool,
-}
-
-// The row that a call adds to the log, if it adds one.
-pub struct NewLogRow {
-    pub added: bool,
-    pub at: usize,
-    pub row: LogRow,
-}
-
-pub struct NewEscrowRow {
-    pub added: bool,
-    pub at: usize,
-    pub row: EscrowRow,
-}
-
-// What a call on copied rows answers, and the rows that it adds.
-pub struct Called {
-    pub reply: LentReply,
-    pub log: NewLogRow,
-    pub escrow: NewEscrowRow,
 }
 
 // The box record of a fresh box.
@@ -98,10 +62,12 @@ pub extern "C" fn caif_call(
 {
     let l = read_log(&*log);
     let e = read_escrow(&*escrow);
-    let r = call_copied(
+    let c = call_counted(
         held,
         l,
+        log.len(),
         e,
+        escrow.len(),
         heaps,
         shared,
         log_values,
@@ -109,7 +75,15 @@ pub extern "C" fn caif_call(
         output,
         bytes,
     );
-    add_log_row(log, r.log.added, r.log.at, r.log.row);
-    add_escrow_row(escrow, r.escrow.added, r.escrow.at, r.escrow.row);
-    r.reply
+    edit_log(log, c.edits.log.put, c.edits.log.at, c.edits.log.row);
+    edit_escrow(
+        escrow,
+        c.edits.escrow.put,
+        c.edits.escrow.at,
+        c.edits.escrow.row,
+    );
+    LentReply {
+        held: c.held,
+        answer: c.answer,
+    }
 }

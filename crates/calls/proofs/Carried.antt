@@ -14,24 +14,20 @@ use Rattle.ideal.specs.Layouts.{Sound}
 use Rattle.state.specs.declared.LogTable.{LogTable}
 use Rattle.state.specs.declared.EscrowTable.{EscrowTable}
 use Rattle.state.specs.declared.Answer.{Answer}
-use Rattle.state.specs.declared.BoxAnswer.{BoxAnswer}
-use Rattle.state.specs.NewRow.{logRowsWith, escrowRowsWith, RowAdded}
-use Rattle.running.specs.Narrow.{startOn, yieldOn, reportOn}
-use Rattle.services.specs.Narrow.{createOn, exitOn, exitHeaps}
+use Rattle.state.specs.declared.Change.{Change}
+use Rattle.state.specs.Answers.{settled}
+use Rattle.state.specs.Edits.{unchanged, EditsBy, Stored, stored}
+use Rattle.services.specs.Narrow.{createOn, startOn, yieldOn, exitOn, exitHeaps, reportOn}
 use Rattle.shared.specs.Narrow.{sharedWriteAnswer, sharedWriteShared, sharedReadAnswer, sharedReadOutput}
 use Rattle.heap.specs.Narrow.{heapWriteAnswer, heapWriteHeaps, heapReadAnswer, heapReadOutput}
-use Rattle.log.specs.Narrow as log-part
 use Rattle.log.specs.Narrow.{attestOn, checkOn}
-use Rattle.escrow.specs.Narrow as escrow-part
 use Rattle.escrow.specs.Narrow.{protectOn}
 use Rattle.retrieval.specs.Narrow.{retrieveAnswer, retrieveHeaps}
 use Rattle.soundness.specs.Parts.{tablesOf}
-use Rattle.state.proofs.NoRow.{counts-kept}
-use Rattle.log.proofs.Bridge.{attest-adds}
-use Rattle.escrow.proofs.Bridge.{protect-adds}
-use Rattle.calls.specs.declared.Change.{Change}
+use Rattle.state.proofs.Edited.{counts-kept}
+use Rattle.log.proofs.Bridge.{attest-edits}
+use Rattle.escrow.proofs.Bridge.{protect-edits}
 use Rattle.calls.specs.Entry.{resultOf, carriedOn}
-use Rattle.calls.specs.Replies.{changeOf, replyAnswer, replyOf}
 use Rattle.calls.proofs.ByKind.{byKind, by-kind}
 use Rattle.calls.proofs.Ready.{ready}
 
@@ -49,95 +45,91 @@ module _
 
     module _ {a : Answer} where
       pub heap-written : {p o : ℕ} {part : Part} {v left : List ℕ} → called ≡ HeapWrite p o part → v ≡ bytesIn bytes part
-          → a ≡ heapWriteAnswer b p o v → left ≡ heapWriteHeaps b heaps p o v → (used : ℕ)
-          → resultOf (replyAnswer b log escrow a used) left shared lv ev output
-          ≡ carriedOn (tablesOf b log escrow heaps shared lv ev) (callIn bytes called) used output
+          → a ≡ heapWriteAnswer b p o v → left ≡ heapWriteHeaps b heaps p o v
+          → resultOf log escrow (unchanged b a) left shared lv ev output
+          ≡ carriedOn (tablesOf b log escrow heaps shared lv ev) (callIn bytes called) output
       unfolding byKind
-      heap-written e f g h used = by-kind s output bytes called used (rw (e, g, h, f))
+      heap-written e f g h = by-kind s output bytes called (rw (e, g, h, f))
 
       pub heap-shown : {p o k : ℕ} {left : List ℕ} → called ≡ HeapRead p o k → a ≡ heapReadAnswer b p o k
-          → left ≡ heapReadOutput b heaps output p o k → (used : ℕ)
-          → resultOf (replyAnswer b log escrow a used) heaps shared lv ev left
-          ≡ carriedOn (tablesOf b log escrow heaps shared lv ev) (callIn bytes called) used output
+          → left ≡ heapReadOutput b heaps output p o k
+          → resultOf log escrow (unchanged b a) heaps shared lv ev left
+          ≡ carriedOn (tablesOf b log escrow heaps shared lv ev) (callIn bytes called) output
       unfolding byKind
-      heap-shown e g h used = by-kind s output bytes called used (rw (e, g, h))
+      heap-shown e g h = by-kind s output bytes called (rw (e, g, h))
 
       pub shared-written : {o : ℕ} {part : Part} {v left : List ℕ} → called ≡ SharedWrite o part → v ≡ bytesIn bytes part
-          → a ≡ sharedWriteAnswer o v → left ≡ sharedWriteShared shared o v → (used : ℕ)
-          → resultOf (replyAnswer b log escrow a used) heaps left lv ev output
-          ≡ carriedOn (tablesOf b log escrow heaps shared lv ev) (callIn bytes called) used output
+          → a ≡ sharedWriteAnswer o v → left ≡ sharedWriteShared shared o v
+          → resultOf log escrow (unchanged b a) heaps left lv ev output
+          ≡ carriedOn (tablesOf b log escrow heaps shared lv ev) (callIn bytes called) output
       unfolding byKind
-      shared-written e f g h used = by-kind s output bytes called used (rw (e, g, h, f))
+      shared-written e f g h = by-kind s output bytes called (rw (e, g, h, f))
 
       pub shared-shown : {o k : ℕ} {left : List ℕ} → called ≡ SharedRead o k → a ≡ sharedReadAnswer o k
-          → left ≡ sharedReadOutput shared output o k → (used : ℕ)
-          → resultOf (replyAnswer b log escrow a used) heaps shared lv ev left
-          ≡ carriedOn (tablesOf b log escrow heaps shared lv ev) (callIn bytes called) used output
+          → left ≡ sharedReadOutput shared output o k
+          → resultOf log escrow (unchanged b a) heaps shared lv ev left
+          ≡ carriedOn (tablesOf b log escrow heaps shared lv ev) (callIn bytes called) output
       unfolding byKind
-      shared-shown e g h used = by-kind s output bytes called used (rw (e, g, h))
+      shared-shown e g h = by-kind s output bytes called (rw (e, g, h))
 
       pub checked : {i : ℕ} {g : Tag} {part : Part} {v : List ℕ} → called ≡ Check i g part → v ≡ bytesIn bytes part
-          → a ≡ checkOn b (log .rows) lv i g v → (used : ℕ)
-          → resultOf (replyAnswer b log escrow a used) heaps shared lv ev output
-          ≡ carriedOn (tablesOf b log escrow heaps shared lv ev) (callIn bytes called) used output
+          → a ≡ checkOn b (log .rows) lv i g v
+          → resultOf log escrow (unchanged b a) heaps shared lv ev output
+          ≡ carriedOn (tablesOf b log escrow heaps shared lv ev) (callIn bytes called) output
       unfolding byKind
-      checked e f g used = by-kind s output bytes called used (rw (e, g, f))
+      checked e f g = by-kind s output bytes called (rw (e, g, f))
 
       pub retrieved : {i o : ℕ} {h : Handle} {left : List ℕ} → called ≡ Retrieve i o h
-          → a ≡ retrieveAnswer b (escrow .rows) ev i o h → left ≡ retrieveHeaps b (escrow .rows) heaps ev i o h → (used : ℕ)
-          → resultOf (replyAnswer b log escrow a used) left shared lv ev output
-          ≡ carriedOn (tablesOf b log escrow heaps shared lv ev) (callIn bytes called) used output
+          → a ≡ retrieveAnswer b (escrow .rows) ev i o h → left ≡ retrieveHeaps b (escrow .rows) heaps ev i o h
+          → resultOf log escrow (unchanged b a) left shared lv ev output
+          ≡ carriedOn (tablesOf b log escrow heaps shared lv ev) (callIn bytes called) output
       unfolding byKind
-      retrieved e g h used = by-kind s output bytes called used (rw (e, g, h))
+      retrieved e g h = by-kind s output bytes called (rw (e, g, h))
 
-      pub reported : called ≡ Report → a ≡ reportOn b → (used : ℕ)
-          → resultOf (replyAnswer b log escrow a used) heaps shared lv ev output
-          ≡ carriedOn (tablesOf b log escrow heaps shared lv ev) (callIn bytes called) used output
+      pub reported : called ≡ Report → a ≡ reportOn b
+          → resultOf log escrow (unchanged b a) heaps shared lv ev output
+          ≡ carriedOn (tablesOf b log escrow heaps shared lv ev) (callIn bytes called) output
       unfolding byKind
-      reported e g used = by-kind s output bytes called used (rw (e, g))
+      reported e g = by-kind s output bytes called (rw (e, g))
 
     -- ---- kinds that alter the box record or a table
 
-    -- with the buffers left, the laid-out step; and a row is added only where one is not used
-    abbrev Carries : ℕ → Change → (heaps shared logValues escrowValues output : List ℕ) → Type 0
-    Carries used r heaps′ shared′ lv′ ev′ output′ =
-        (resultOf (replyOf b log escrow r) heaps′ shared′ lv′ ev′ output′
-        ≡ carriedOn (tablesOf b log escrow heaps shared lv ev) (callIn bytes called) used output)
-        × RowAdded b (r .held) (r .added)
+    -- with the buffers left, the laid-out step; and a row is put only where one is not used
+    abbrev Carries : Change → (heaps shared logValues escrowValues output : List ℕ) → Type 0
+    Carries r heaps′ shared′ lv′ ev′ output′ =
+        (resultOf log escrow r heaps′ shared′ lv′ ev′ output′
+        ≡ carriedOn (tablesOf b log escrow heaps shared lv ev) (callIn bytes called) output)
+        × EditsBy b (r .held) (r .edits)
 
-    module _ (used : ℕ) {r : Change} where
-      pub created : {p i : ℕ} {a : BoxAnswer} → called ≡ Create p i → r ≡ changeOf a used → a ≡ createOn b p i
-          → Carries used r heaps shared lv ev output
-      unfolding byKind logRowsWith escrowRowsWith createOn
-      created e f g = (by-kind s output bytes called used (rw (e, f, g)), rw (f, g) (counts-kept _ b _ refl refl))
+    module _ {r : Change} where
+      pub created : {p i : ℕ} → called ≡ Create p i → r ≡ createOn b p i → Carries r heaps shared lv ev output
+      unfolding byKind createOn
+      created e g = (by-kind s output bytes called (rw (e, g)), rw g (counts-kept _ b _ refl refl))
 
-      pub started : {p : ℕ} {a : BoxAnswer} → called ≡ Start p → r ≡ changeOf a used → a ≡ startOn b p
-          → Carries used r heaps shared lv ev output
-      unfolding byKind logRowsWith escrowRowsWith startOn
-      started e f g = (by-kind s output bytes called used (rw (e, f, g)), rw (f, g) (counts-kept _ b _ refl refl))
+      pub started : {p : ℕ} → called ≡ Start p → r ≡ startOn b p → Carries r heaps shared lv ev output
+      unfolding byKind startOn
+      started e g = (by-kind s output bytes called (rw (e, g)), rw g (counts-kept _ b _ refl refl))
 
-      pub yielded : {a : BoxAnswer} → called ≡ Yield → r ≡ changeOf a used → a ≡ yieldOn b → Carries used r heaps shared lv ev output
-      unfolding byKind logRowsWith escrowRowsWith yieldOn
-      yielded e f g = (by-kind s output bytes called used (rw (e, f, g)), rw (f, g) (counts-kept _ b _ refl refl))
+      pub yielded : called ≡ Yield → r ≡ yieldOn b → Carries r heaps shared lv ev output
+      unfolding byKind yieldOn
+      yielded e g = (by-kind s output bytes called (rw (e, g)), rw g (counts-kept _ b _ refl refl))
 
-      pub exited : {a : BoxAnswer} {left : List ℕ} → called ≡ Exit → r ≡ changeOf a used → a ≡ exitOn b → left ≡ exitHeaps b heaps
-          → Carries used r left shared lv ev output
-      unfolding byKind logRowsWith escrowRowsWith exitOn
-      exited e f g h = (by-kind s output bytes called used (rw (e, f, g, h)), rw (f, g) (counts-kept _ b _ refl refl))
+      pub exited : {left : List ℕ} → called ≡ Exit → r ≡ exitOn b → left ≡ exitHeaps b heaps → Carries r left shared lv ev output
+      unfolding byKind exitOn
+      exited e g h = (by-kind s output bytes called (rw (e, g, h)), rw g (counts-kept _ b _ refl refl))
 
-      pub attested : {o k : ℕ} {a : BoxAnswer} {left : List ℕ} → called ≡ Attest o k → r ≡ changeOf a used
-          → log-part.resultOf a left ≡ attestOn b (log .rows) heaps lv o k → Carries used r heaps shared left ev output
+      pub attested : {o k : ℕ} {left : List ℕ} → called ≡ Attest o k → stored r left ≡ attestOn b (log .rows) heaps lv o k
+          → Carries r heaps shared left ev output
       unfolding byKind
-      attested {o} {k} e f g = (
-        by-kind s output bytes called used (rw (e, f, ← g)),
-        rw (f, ap (λ (x : log-part.LogResult). x .held) g, ap (λ (x : log-part.LogResult). x .added) g) (attest-adds b (log .rows) heaps lv o k (ready s .log .few)),
+      attested {o} {k} e g = (
+        by-kind s output bytes called (rw (e, ← g)),
+        rw (ap (λ (x : Stored). x .change) g) (attest-edits b (log .rows) heaps lv o k (ready s .log .few)),
       )
 
-      pub protected : {i o k : ℕ} {d : Draw} {a : BoxAnswer} {left : List ℕ} → called ≡ Protect i o k d → r ≡ changeOf a used
-          → escrow-part.resultOf a left ≡ protectOn b (escrow .rows) heaps ev i o k d → Carries used r heaps shared lv left output
+      pub protected : {i o k : ℕ} {d : Draw} {left : List ℕ} → called ≡ Protect i o k d
+          → stored r left ≡ protectOn b (escrow .rows) heaps ev i o k d → Carries r heaps shared lv left output
       unfolding byKind
-      protected {i} {o} {k} {d} e f g = (
-        by-kind s output bytes called used (rw (e, f, ← g)),
-        rw (f, ap (λ (x : escrow-part.EscrowResult). x .held) g, ap (λ (x : escrow-part.EscrowResult). x .added) g)
-            (protect-adds b (escrow .rows) heaps ev i o k d (ready s .runs) (ready s .escrow .few)),
+      protected {i} {o} {k} {d} e g = (
+        by-kind s output bytes called (rw (e, ← g)),
+        rw (ap (λ (x : Stored). x .change) g) (protect-edits b (escrow .rows) heaps ev i o k d (ready s .runs) (ready s .escrow .few)),
       )

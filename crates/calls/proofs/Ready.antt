@@ -2,16 +2,14 @@
 use Prim.Native.Nat.{ℕ, _≤_}
 use mathlib.Core.Path.{_≡_}
 use lib.ListN.{length}
-use Rattle.ideal.specs.Tables.{Tables, takenMap, stateOf}
+use Rattle.ideal.specs.Tables.{Tables, logTable, escrowTable, takenMap, stateOf}
 use Rattle.ideal.specs.Layouts.{Sound}
 use Rattle.ideal.proofs.Facts.{facts, output-size}
 use Rattle.ideal.proofs.Laid.{valid-sound, tables-state}
+use Rattle.state.specs.Parts.{TableFits}
+use Rattle.state.proofs.Parts.{table-fits}
 use Rattle.services.specs.Narrow.{Leaving}
 use Rattle.services.proofs.Bridge.{exit-ready}
-use Rattle.log.specs.Narrow.{LogFits}
-use Rattle.log.proofs.Bridge.{log-fits}
-use Rattle.escrow.specs.Narrow.{EscrowFits}
-use Rattle.escrow.proofs.Bridge.{escrow-fits}
 
 pub record Ready (t : Tables) (outputSize : ℕ) : Type 0 where
   pub map : t .box .taken ≡ takenMap (t .box .identities)
@@ -20,8 +18,8 @@ pub record Ready (t : Tables) (outputSize : ℕ) : Type 0 where
   pub heaps : length (t .heaps) ≡ 4096
   pub shared : length (t .shared) ≡ 1024
   pub output : outputSize ≡ 1024
-  pub log : LogFits (t .box .log) (t .logRows) (t .logValues)
-  pub escrow : EscrowFits (t .box .escrow) (t .escrowRows) (t .escrowValues)
+  pub log : TableFits logTable (t .box .log) (t .logRows) (t .logValues)
+  pub escrow : TableFits escrowTable (t .box .escrow) (t .escrowRows) (t .escrowValues)
 
 pub ready : {t : Tables} {n : ℕ} → Sound t n → Ready t n
 ready {t} {n} s =
@@ -34,6 +32,6 @@ ready {t} {n} s =
       heaps = f .heaps;
       shared = f .shared;
       output = output-size t n (s .sizes);
-      log = log-fits (f .log);
-      escrow = escrow-fits (f .escrow);
+      log = table-fits logTable (f .log);
+      escrow = table-fits escrowTable (f .escrow);
     }

@@ -1,70 +1,82 @@
 -- What the reader finds, and what the first test says, of the whole box. Assumes nothing.
-use Prim.Native.Nat.{ℕ}
-use mathlib.Core.Path.{_≡_, refl}
+use Prim.Native.Nat.{ℕ, zero, suc}
+use mathlib.Core.Path.{_≡_, refl, ap, _∙_}
 use mathlib.Core.Bool.{true, false}
 use mathlib.Core.List.{List}
 use lib.ListN.{length}
 use lib.Dec.{eqb}
 use borrow.Author.Tests.{eqb-true}
+use Rattle.record.specs.Call.{Call}
 use Rattle.record.specs.declared.Call as code
 use Rattle.record.specs.declared.Reading as found
 use Rattle.record.specs.declared.Reading.the-variants.{Whole}
 use Rattle.record.specs.Read.{refused, read}
 use Rattle.record.specs.Meaning.{callIn, readingIn}
-use Rattle.ideal.specs.Step.{refuse, refusedAnswer, onReading, stepOn}
-use Rattle.ideal.specs.Tables.{Tables}
+use Rattle.ideal.specs.Step.{refusal, refuse, refusedAnswer, accepted, settle, step, onReading, stepOn}
+use Rattle.ideal.specs.Tables.{Tables, stateOf}
 use Rattle.ideal.specs.Soundness.{pass, sizesRight, sound}
 use Rattle.ideal.specs.Box.{laid, unsound, callOn, outputAfter}
 use Rattle.ideal.specs.Layouts.{Sound}
-use Rattle.ideal.proofs.Bools.{and-left, and-right}
+use Rattle.lists.proofs.Bools.{and-left, and-right}
 use Rattle.ideal.proofs.Laid.{tables-state}
 use Rattle.ideal.specs.declared.BoxRecord.{BoxRecord}
 use Rattle.state.specs.declared.LogTable.{LogTable}
 use Rattle.state.specs.declared.EscrowTable.{EscrowTable}
-use Rattle.state.specs.declared.Added.the-variants.{Nothing}
 use Rattle.state.specs.declared.Answer.{Answer}
-use Rattle.state.specs.NewRow.{logRowsWith, escrowRowsWith, RowAdded}
+use Rattle.state.specs.declared.Change.{Change}
+use Rattle.state.specs.Answers.{refusedWith}
+use Rattle.state.specs.Edits.{unchanged, EditsBy}
+use Rattle.state.proofs.Edited.{no-edits}
 use Rattle.soundness.specs.Parts.{tablesOf, Lent}
-use Rattle.calls.specs.declared.Change.{Change}
-use Rattle.calls.specs.Replies.{changeAnswer, changeRefusal, replyAnswer, replyOf}
-use Rattle.calls.specs.Entry.{EntryResult, resultOf, resultOn, entryOn, readyOn, soundOn, carriedOn}
+use Rattle.calls.specs.Entry.{EntryResult, resultOf, withUsed, resultOn, entryOn, readyOn, soundOn, carriedOn}
 
 -- a refusal that comes before any call
-abbrev pub refusedOn : Tables → (code number : ℕ) → (output : List ℕ) → EntryResult
-refusedOn t code number output =
-    record { tables = t; code = code; number = number; used = 0; shown = 0; output = output }
+abbrev pub refusedOn : Tables → (code : ℕ) → (output : List ℕ) → EntryResult
+refusedOn t code output = record { tables = t; answer = refusedWith code; output = output }
 
--- its code changes nothing, and adds no row
+-- of a record with so many bytes
+abbrev usedIs : ℕ → EntryResult → EntryResult
+usedIs used x =
+    record {
+      tables = x .tables;
+      answer = record { code = x .answer .code; number = x .answer .number; used = used; shown = x .answer .shown };
+      output = x .output;
+    }
+
 module _ {b : BoxRecord} {log : LogTable} {escrow : EscrowTable} {heaps shared lv ev output : List ℕ} {r : Change} {x : EntryResult} where
-  pub nothing-changed : {code number : ℕ} → r ≡ changeRefusal b code number
-      → refusedOn (tablesOf b log escrow heaps shared lv ev) code number output ≡ x
-      → (resultOf (replyOf b log escrow r) heaps shared lv ev output ≡ x) × RowAdded b (r .held) (r .added)
-  unfolding logRowsWith escrowRowsWith RowAdded
-  nothing-changed e h = (rw e h, rw e (refl, refl))
+  -- a call with an answer alone puts no row
+  pub nothing-put : {a : Answer} → r ≡ unchanged b a → resultOf log escrow (unchanged b a) heaps shared lv ev output ≡ x
+      → (resultOf log escrow r heaps shared lv ev output ≡ x) × EditsBy b (r .held) (r .edits)
+  nothing-put e h = (rw e h, rw e (no-edits b b refl refl))
 
-  -- nor does that of a call with an answer alone
-  pub no-row-added : {a : Answer} {used : ℕ} → r ≡ changeAnswer b Nothing a used
-      → resultOf (replyAnswer b log escrow a used) heaps shared lv ev output ≡ x
-      → (resultOf (replyOf b log escrow r) heaps shared lv ev output ≡ x) × RowAdded b (r .held) (r .added)
-  unfolding logRowsWith escrowRowsWith RowAdded
-  no-row-added e h = (rw e h, rw e (refl, refl))
+-- a record of so many bytes puts no other row
+pub with-used : (log : LogTable) (escrow : EscrowTable) {b : BoxRecord} {heaps shared lv ev output : List ℕ} {r c : Change} {used : ℕ} {x y : EntryResult}
+    → r ≡ withUsed c used → resultOf log escrow c heaps shared lv ev output ≡ y → EditsBy b (c .held) (c .edits) → usedIs used y ≡ x
+    → (resultOf log escrow r heaps shared lv ev output ≡ x) × EditsBy b (r .held) (r .edits)
+with-used log escrow {used = used} e h k w = (rw e (ap (usedIs used) h ∙ w), rw e k)
 
 -- ---- what the reader finds
 
-pub whole-read : (t : Tables) (bytes output : List ℕ) (r : found.Reading) → readingIn bytes r ≡ read bytes
-    → (c : code.Call) (used : ℕ) → r ≡ Whole c used → carriedOn t (callIn bytes c) used output ≡ soundOn t bytes output
-unfolding carriedOn soundOn stepOn readingIn onReading
-whole-read t bytes output r h c used e = rw (← h, e)
+settled-used : (t : Tables) (c : Call) (used : ℕ) (output : List ℕ) (r : ℕ)
+    → usedIs used (resultOn (laid (settle r (stateOf t) c 0)) output) ≡ resultOn (laid (settle r (stateOf t) c used)) output
+unfolding resultOn laid settle refuse refusedAnswer accepted outputAfter
+settled-used t c used output zero = refl
+settled-used t c used output (suc r) = refl
 
-pub refused-read : {t : Tables} {n : ℕ} → Sound t n → (bytes output : List ℕ) (code number : ℕ) → read bytes ≡ refused code number
-    → refusedOn t code number output ≡ soundOn t bytes output
+pub whole-read : (t : Tables) (bytes output : List ℕ) (r : found.Reading) → readingIn bytes r ≡ read bytes
+    → (c : code.Call) (used : ℕ) → r ≡ Whole c used → usedIs used (carriedOn t (callIn bytes c) output) ≡ soundOn t bytes output
+unfolding carriedOn soundOn stepOn readingIn onReading step
+whole-read t bytes output r h c used e = rw (← h, e) (settled-used t (callIn bytes c) used output (refusal (stateOf t) (callIn bytes c)))
+
+pub refused-read : {t : Tables} {n : ℕ} → Sound t n → (bytes output : List ℕ) (code : ℕ) → read bytes ≡ refused code 0
+    → refusedOn t code output ≡ soundOn t bytes output
 unfolding soundOn stepOn onReading resultOn laid refuse refusedAnswer outputAfter
-refused-read {t} {n} s bytes output code number h = rw (h, tables-state t n s)
+refused-read {t} {n} s bytes output code h = rw (h, tables-state t n s)
 
 -- ---- the first test
 
 module _ (t : Tables) (bytes output : List ℕ) where
-  pub refused-entry : readyOn t (length output) ≡ false → refusedOn t 15 0 output ≡ entryOn t bytes output
+  pub refused-entry : readyOn t (length output) ≡ false → refusedOn t 15 output ≡ entryOn t bytes output
   unfolding readyOn entryOn callOn unsound resultOn refusedAnswer outputAfter
   refused-entry h = rw h
 

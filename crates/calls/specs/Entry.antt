@@ -8,30 +8,28 @@ use Rattle.ideal.specs.Step.{step, stepOn}
 use Rattle.ideal.specs.Tables.{Tables, stateOf}
 use Rattle.ideal.specs.Soundness.{sizesRight, sound}
 use Rattle.ideal.specs.Box.{Result, laid, callOn, outputAfter}
+use Rattle.state.specs.declared.LogTable.{LogTable}
+use Rattle.state.specs.declared.EscrowTable.{EscrowTable}
+use Rattle.state.specs.declared.Answer.{Answer}
+use Rattle.state.specs.declared.Change.{Change}
+use Rattle.state.specs.Edits.{logWith, escrowWith}
 use Rattle.soundness.specs.Parts.{tablesOf}
-use Rattle.calls.specs.declared.Reply.{Reply}
 
 pub record EntryResult : Type 0 where
   -- the box record, the heaps, shared memory, the rows and the value bytes of the log and of the escrow
   pub tables : Tables
-  pub code : ℕ
-  pub number : ℕ
-  -- record bytes used
-  pub used : ℕ
-  -- how many bytes are shown
-  pub shown : ℕ
+  -- code, number, record bytes used, how many bytes are shown
+  pub answer : Answer
   -- the whole output buffer
   pub output : List ℕ
 
--- of the code: its reply, and the lent buffers at exit
-abbrev pub resultOf : Reply → (heaps shared logValues escrowValues output : List ℕ) → EntryResult
-resultOf r heaps shared logValues escrowValues output =
+-- of the code: the tables that came in, with what it changes, and the lent buffers at exit
+abbrev pub resultOf : LogTable → EscrowTable → Change → (heaps shared logValues escrowValues output : List ℕ) → EntryResult
+resultOf log escrow c heaps shared logValues escrowValues output =
     record {
-      tables = tablesOf (r .held) (r .log) (r .escrow) heaps shared logValues escrowValues;
-      code = r .code;
-      number = r .number;
-      used = r .used;
-      shown = r .shown;
+      tables =
+          tablesOf (c .held) (logWith (c .edits .log) log) (escrowWith (c .edits .escrow) escrow) heaps shared logValues escrowValues;
+      answer = c .answer;
       output = output;
     }
 
@@ -40,10 +38,13 @@ unfoldable pub resultOn : Result → (output : List ℕ) → EntryResult
 resultOn r output =
     record {
       tables = r .tables;
-      code = r .answer .code;
-      number = r .answer .number;
-      used = r .answer .used;
-      shown = length (r .answer .shown);
+      answer =
+          record {
+            code = r .answer .code;
+            number = r .answer .number;
+            used = r .answer .used;
+            shown = length (r .answer .shown);
+          };
       output = outputAfter (r .answer) output;
     }
 
@@ -61,6 +62,21 @@ readyOn t outputSize = sizesRight t outputSize && sound t
 unfoldable pub soundOn : Tables → (bytes output : List ℕ) → EntryResult
 soundOn t bytes output = resultOn (laid (stepOn (stateOf t) bytes)) output
 
--- a call, on a sound box
-unfoldable pub carriedOn : Tables → Call → (used : ℕ) → (output : List ℕ) → EntryResult
-carriedOn t c used output = resultOn (laid (step (stateOf t) c used)) output
+-- a call, on a sound box: it reads no record, so that it uses no byte of one
+unfoldable pub carriedOn : Tables → Call → (output : List ℕ) → EntryResult
+carriedOn t c output = resultOn (laid (step (stateOf t) c 0)) output
+
+-- a call of a record with so many bytes
+abbrev pub withUsed : Change → (used : ℕ) → Change
+withUsed c used =
+    record {
+      held = c .held;
+      edits = c .edits;
+      answer =
+          record {
+            code = c .answer .code;
+            number = c .answer .number;
+            used = used;
+            shown = c .answer .shown;
+          };
+    }

@@ -1,3 +1,2 @@
 pub mod Alone
 pub mod Entry
-pub mod Replies

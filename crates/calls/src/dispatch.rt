@@ -1,17 +1,12 @@
 // The thirteen kinds, each to the function that carries it out.
 ghost use mathlib.Core.Path.{_≡_};
-ghost use Prim.Native.Nat.{ℕ};
 ghost use lib.ListN.{length};
 ghost use Rattle.record.specs.Meaning.{bytesIn, callIn, PartWithin, CallWithin};
 ghost use Rattle.ideal.specs.Layouts.{Sound};
 ghost use Rattle.soundness.specs.Parts.{tablesOf};
 ghost use Rattle.calls.specs.Entry.{resultOf, carriedOn};
-ghost use Rattle.state.specs.NewRow.{RowAdded};
-ghost use Rattle.calls.specs.Replies.{replyAnswer, replyOf};
+ghost use Rattle.state.specs.Edits.{unchanged, EditsBy};
 ghost use Rattle.calls.specs.Alone.{Alone};
-use crate::Change;
-use crate::answers::change_answer;
-use crate::answers::change_of;
 use escrow::protect;
 use heap::heap_read;
 use heap::heap_write;
@@ -21,17 +16,18 @@ use log::check_pair;
 use record::Call;
 use record::Part;
 use retrieval::retrieve;
-use running::report;
-use running::start;
-use running::yield_running;
 use services::create;
 use services::exit_running;
+use services::report;
+use services::start;
+use services::yield_running;
 use shared::shared_read;
 use shared::shared_write;
-use state::Added;
 use state::Answer;
+use state::Change;
 use state::EscrowTable;
 use state::LogTable;
+use state::unedited;
 
 // The bytes of a bytes field.
 fn bytes_of(bytes: &[u8], part: Part) -> &[u8]
@@ -62,10 +58,9 @@ fn answer_alone(
     requires { ⌜ CallWithin (now bytes) called ⌝ }
     requires { ⌜ Alone called ⌝ }
     ensures { λ r. ⌜
-        ((used : ℕ) →
-        resultOf (replyAnswer b log escrow r used) (now (heaps .exit)) (now (shared .exit)) (now («log_values» .exit)) (now («escrow_values» .exit)) (now (output .exit))
+        resultOf log escrow (unchanged b r) (now (heaps .exit)) (now (shared .exit)) (now («log_values» .exit)) (now («escrow_values» .exit)) (now (output .exit))
         ≡ carriedOn (tablesOf b log escrow (now (heaps .entry)) (now (shared .entry)) (now («log_values» .entry)) (now («escrow_values» .entry)))
-        (callIn (now (bytes .entry)) called) used (now (output .entry)))
+        (callIn (now (bytes .entry)) called) (now (output .entry))
         ⌝ }
 {
     match called {
@@ -98,7 +93,7 @@ fn answer_alone(
     }
 }
 
-// A call that was read, on a sound box.
+// A call on a sound box, whoever read it: no byte of a record is used.
 pub fn carry_out(
     b: BoxRecord,
     log: LogTable,
@@ -110,37 +105,30 @@ pub fn carry_out(
     output: &mut [u8],
     bytes: &[u8],
     called: Call,
-    used: usize,
 ) -> Change
     requires { ⌜
         Sound (tablesOf b log escrow (now heaps) (now shared) (now «log_values») (now «escrow_values»)) (length (now output))
         ⌝ }
     requires { ⌜ CallWithin (now bytes) called ⌝ }
     ensures { λ r. ⌜
-        resultOf (replyOf b log escrow r) (now (heaps .exit)) (now (shared .exit)) (now («log_values» .exit)) (now («escrow_values» .exit)) (now (output .exit))
+        resultOf log escrow r (now (heaps .exit)) (now (shared .exit)) (now («log_values» .exit)) (now («escrow_values» .exit)) (now (output .exit))
         ≡ carriedOn (tablesOf b log escrow (now (heaps .entry)) (now (shared .entry)) (now («log_values» .entry)) (now («escrow_values» .entry)))
-        (callIn (now (bytes .entry)) called) used (now (output .entry))
+        (callIn (now (bytes .entry)) called) (now (output .entry))
         ⌝ }
-    ensures { λ r. ⌜ RowAdded b (r .held) (r .added) ⌝ }
+    ensures { λ r. ⌜ EditsBy b (r .held) (r .edits) ⌝ }
 {
     match called {
-        Call::Create { place, identity } => change_of(create(b, place, identity), used),
-        Call::Start { place } => change_of(start(b, place), used),
-        Call::Yield => change_of(yield_running(b), used),
-        Call::Exit => change_of(exit_running(b, heaps), used),
-        Call::Attest { offset, length } => {
-            let a = attest(b, log, heaps, log_values, offset, length);
-            change_of(a, used)
-        }
+        Call::Create { place, identity } => create(b, place, identity),
+        Call::Start { place } => start(b, place),
+        Call::Yield => yield_running(b),
+        Call::Exit => exit_running(b, heaps),
+        Call::Attest { offset, length } => attest(b, log, heaps, log_values, offset, length),
         Call::Protect {
             identity: to,
             offset,
             length,
             draw,
-        } => {
-            let a = protect(b, escrow, heaps, escrow_values, to, offset, length, draw);
-            change_of(a, used)
-        }
+        } => protect(b, escrow, heaps, escrow_values, to, offset, length, draw),
         _ => {
             let a = answer_alone(
                 b,
@@ -154,7 +142,7 @@ pub fn carry_out(
                 bytes,
                 called,
             );
-            change_answer(b, Added::Nothing, a, used)
+            unedited(b, a)
         }
     }
 }

@@ -1,46 +1,30 @@
 // The box's entry: a record's bytes are read and carried out on the box that a host hands in.
-mod answers;
 mod dispatch;
 
+pub use dispatch::carry_out;
 ghost use mathlib.Core.Path.{_≡_};
 ghost use lib.ListN.{length};
 ghost use Rattle.ideal.specs.Layouts.{Sound};
 ghost use Rattle.soundness.specs.Parts.{tablesOf};
-ghost use Rattle.state.specs.NewRow.{RowAdded};
-ghost use Rattle.calls.specs.Entry.{resultOf, readyOn, soundOn, entryOn};
-ghost use Rattle.calls.specs.Replies.{replyOf};
-use answers::change_refusal;
-use answers::reply_of;
-use dispatch::carry_out;
+ghost use Rattle.state.specs.Edits.{EditsBy};
+ghost use Rattle.calls.specs.Entry.{resultOf, withUsed, readyOn, soundOn, entryOn};
 use ideal::BoxRecord;
 use reader::read_call;
 use record::Reading;
 use sound::box_sound;
 use sound::sizes_right;
-use state::Added;
+use state::Change;
 use state::EscrowTable;
 use state::LogTable;
+use state::refuse;
 
-// What a call changes in the box record and the tables, and its answer. shown is how many bytes stand at the front of the
-// output buffer.
-pub struct Change {
-    pub held: BoxRecord,
-    pub added: Added,
-    pub code: u8,
-    pub number: u64,
-    pub used: usize,
-    pub shown: u16,
-}
-
-// The same with whole tables.
-pub struct Reply {
-    pub held: BoxRecord,
-    pub log: LogTable,
-    pub escrow: EscrowTable,
-    pub code: u8,
-    pub number: u64,
-    pub used: usize,
-    pub shown: u16,
+// The change of a call whose record has so many bytes.
+fn with_used(change: Change, used: usize) -> Change
+    ensures { λ r. ⌜ r ≡ withUsed change used ⌝ }
+{
+    let mut next = change;
+    next.answer.used = used;
+    next
 }
 
 // Whether the lent buffers are of their sizes and the box is sound.
@@ -81,34 +65,36 @@ pub fn call_sound(
         Sound (tablesOf b log escrow (now heaps) (now shared) (now «log_values») (now «escrow_values»)) (length (now output))
         ⌝ }
     ensures { λ r. ⌜
-        resultOf (replyOf b log escrow r) (now (heaps .exit)) (now (shared .exit)) (now («log_values» .exit)) (now («escrow_values» .exit)) (now (output .exit))
+        resultOf log escrow r (now (heaps .exit)) (now (shared .exit)) (now («log_values» .exit)) (now («escrow_values» .exit)) (now (output .exit))
         ≡ soundOn (tablesOf b log escrow (now (heaps .entry)) (now (shared .entry)) (now («log_values» .entry)) (now («escrow_values» .entry)))
         (now (bytes .entry)) (now (output .entry))
         ⌝ }
-    ensures { λ r. ⌜ RowAdded b (r .held) (r .added) ⌝ }
+    ensures { λ r. ⌜ EditsBy b (r .held) (r .edits) ⌝ }
 {
     match read_call(bytes) {
-        Reading::Whole { call, used } => carry_out(
-            b,
-            log,
-            escrow,
-            heaps,
-            shared,
-            log_values,
-            escrow_values,
-            output,
-            bytes,
-            call,
-            used,
-        ),
-        Reading::Cut => change_refusal(b, 1, 0),
-        Reading::UnknownKind => change_refusal(b, 2, 0),
-        Reading::WrongMap => change_refusal(b, 3, 0),
+        Reading::Whole { call, used } => {
+            let change = carry_out(
+                b,
+                log,
+                escrow,
+                heaps,
+                shared,
+                log_values,
+                escrow_values,
+                output,
+                bytes,
+                call,
+            );
+            with_used(change, used)
+        }
+        Reading::Cut => refuse(b, 1),
+        Reading::UnknownKind => refuse(b, 2),
+        Reading::WrongMap => refuse(b, 3),
     }
 }
 
-// One record on any box, with buffers of any length. For hosts that hold the rows elsewhere: no table comes back.
-pub fn call_change(
+// One record on any box, with buffers of any length.
+pub fn call(
     b: BoxRecord,
     log: LogTable,
     escrow: EscrowTable,
@@ -120,11 +106,11 @@ pub fn call_change(
     bytes: &[u8],
 ) -> Change
     ensures { λ r. ⌜
-        resultOf (replyOf b log escrow r) (now (heaps .exit)) (now (shared .exit)) (now («log_values» .exit)) (now («escrow_values» .exit)) (now (output .exit))
+        resultOf log escrow r (now (heaps .exit)) (now (shared .exit)) (now («log_values» .exit)) (now («escrow_values» .exit)) (now (output .exit))
         ≡ entryOn (tablesOf b log escrow (now (heaps .entry)) (now (shared .entry)) (now («log_values» .entry)) (now («escrow_values» .entry)))
         (now (bytes .entry)) (now (output .entry))
         ⌝ }
-    ensures { λ r. ⌜ RowAdded b (r .held) (r .added) ⌝ }
+    ensures { λ r. ⌜ EditsBy b (r .held) (r .edits) ⌝ }
 {
     if !is_ready(
         b,
@@ -136,7 +122,7 @@ pub fn call_change(
         escrow_values,
         output,
     ) {
-        return change_refusal(b, 15, 0);
+        return refuse(b, 15);
     }
     call_sound(
         b,
@@ -149,36 +135,4 @@ pub fn call_change(
         output,
         bytes,
     )
-}
-
-// One record on any box, with buffers of any length, and whole tables back.
-pub fn call(
-    b: BoxRecord,
-    log: LogTable,
-    escrow: EscrowTable,
-    heaps: &mut [u8],
-    shared: &mut [u8],
-    log_values: &mut [u8],
-    escrow_values: &mut [u8],
-    output: &mut [u8],
-    bytes: &[u8],
-) -> Reply
-    ensures { λ r. ⌜
-        resultOf r (now (heaps .exit)) (now (shared .exit)) (now («log_values» .exit)) (now («escrow_values» .exit)) (now (output .exit))
-        ≡ entryOn (tablesOf b log escrow (now (heaps .entry)) (now (shared .entry)) (now («log_values» .entry)) (now («escrow_values» .entry)))
-        (now (bytes .entry)) (now (output .entry))
-        ⌝ }
-{
-    let change = call_change(
-        b,
-        log,
-        escrow,
-        heaps,
-        shared,
-        log_values,
-        escrow_values,
-        output,
-        bytes,
-    );
-    reply_of(b, log, escrow, change)
 }

@@ -10,35 +10,26 @@ use Rattle.record.specs.declared.Draw.{Draw}
 use Rattle.record.specs.Call.{protect}
 use Rattle.ideal.specs.declared.BoxRecord.{BoxRecord}
 use Rattle.ideal.specs.declared.EscrowRow.{EscrowRow}
-use Rattle.ideal.specs.declared.Used.{Used}
-use Rattle.ideal.specs.State.{State, EscrowKey, Escrowed, part, ownPart, heapAt}
-use Rattle.ideal.specs.Step.{freeHandle, full, _then_, accept, first, idle, beyond, tests, refusal, withEscrow, protected, effect, number, shown, step}
-use Rattle.ideal.specs.Tables.{Tables, escrowTable, usedBy, boxRecord, tables, stateOf}
+use Rattle.ideal.specs.State.{State, escrows, EscrowKey, Escrowed, part, ownPart, heapAt}
+use Rattle.ideal.specs.Step.{freeHandle, full, _then_, accept, first, idle, beyond, tests, refusal, protected, move, apply, effect, number, shown, step}
+use Rattle.ideal.specs.Tables.{Tables, usedBy, boxRecord, tables, stateOf}
 use Rattle.ideal.specs.Box.{Result, laid}
 use Rattle.ideal.proofs.Chain.{failed, passed}
 use Rattle.ideal.specs.Valid.{Valid}
-use Rattle.ideal.proofs.Table.{part-length, Stands, escrow-lawful}
-use Rattle.ideal.proofs.Fit.{rows-fit}
+use Rattle.ideal.proofs.Table.{part-length, escrow-lawful}
 use Rattle.ideal.proofs.More.{row-added, value-added, counts-raised}
 use Rattle.ideal.proofs.HeapBytes.{own-bytes}
 use Rattle.state.specs.Answers.{settled}
-use Rattle.state.proofs.Settled.{answerOf, settledResult, Moves, laid-step}
-use Rattle.escrow.specs.Narrow.{EscrowFits, callerOf, heapByte, escrowOf, EscrowResult, moreEscrow, protectUnless, protectRefusal, protectOn}
+use Rattle.state.proofs.Settled.{answerOf, ShowsNone, settledResult, Moves, laid-step}
+use Rattle.escrow.specs.Narrow.{moreEscrow, protectUnless, protectRefusal, protectOn}
 use Rattle.state.specs.Counts.{fullBy, Room}
-use Rattle.state.specs.NewRow.{logRowsWith, escrowRowsWith, RowAdded}
+use Rattle.state.specs.Parts.{callerOf, heapByte, escrowOf}
+use Rattle.state.specs.Edits.{EditsBy, Stored, changed}
+use Rattle.state.proofs.Edited.{no-edits, escrow-added}
+use Rattle.state.proofs.Parts.{HeapFits}
 use Rattle.state.proofs.Rooms.{has-room}
 
--- what protect and retrieve require of the escrow, of a sound one
-pub escrow-fits : {rows : List EscrowRow} {values : List ℕ} {used : Used} → Stands escrowTable rows values used
-    → EscrowFits used rows values
-escrow-fits {rows} {values} {used} s =
-    record { few = s .few; size = s .value-count; fit = rows-fit escrowTable rows values used s }
-
 -- ---- what an accepted call passed
-
-pub record HeapFits (running offset size : ℕ) : Type 0 where
-  pub runs : running < 16
-  pub within : offset + size ≤ 256
 
 record Protects (b : BoxRecord) (offset size : ℕ) : Type 0 where
   heap : HeapFits (b .running) offset size
@@ -58,46 +49,50 @@ protects b i o n d r l e =
       room = has-room (b .escrow) n l (failed 13 (fullBy (b .escrow) n) _ e₄);
     }
 
--- ---- a protect adds a row only where one is not used
+-- ---- a protect puts a row only where one is not used
 
-protected-adds : (r : ℕ) (b : BoxRecord) (rows : List EscrowRow) (values : List ℕ) (i j : ℕ) (d : Draw) (v : List ℕ)
+protected-edits : (r : ℕ) (b : BoxRecord) (rows : List EscrowRow) (values : List ℕ) (i j : ℕ) (d : Draw) (v : List ℕ)
     → (r ≡ 0 → b .escrow .rows < 64)
-    → RowAdded b (protectUnless r b rows values i j d v .held) (protectUnless r b rows values i j d v .added)
-unfolding protectUnless settled moreEscrow RowAdded
-protected-adds zero b rows values i j d v h = (refl, refl, h refl)
-protected-adds (suc r) b rows values i j d v h = (refl, refl)
+    → let c = protectUnless r b rows values i j d v .change in EditsBy b (c .held) (c .edits)
+unfolding protectUnless settled moreEscrow
+protected-edits zero b rows values i j d v h = escrow-added b _ refl refl (h refl)
+protected-edits (suc r) b rows values i j d v h = no-edits b b refl refl
 
-pub protect-adds : (b : BoxRecord) (rows : List EscrowRow) (heaps values : List ℕ) (i o n : ℕ) (d : Draw) → b .running ≤ 16
-    → b .escrow .rows ≤ 64 → RowAdded b (protectOn b rows heaps values i o n d .held) (protectOn b rows heaps values i o n d .added)
+pub protect-edits : (b : BoxRecord) (rows : List EscrowRow) (heaps values : List ℕ) (i o n : ℕ) (d : Draw) → b .running ≤ 16
+    → b .escrow .rows ≤ 64 → let c = protectOn b rows heaps values i o n d .change in EditsBy b (c .held) (c .edits)
 unfolding protectOn
-protect-adds b rows heaps values i o n d runs few =
-    protected-adds _ b rows values _ _ _ _ (λ e. protects b i o n d runs few e .room .row)
+protect-edits b rows heaps values i o n d runs few =
+    protected-edits _ b rows values _ _ _ _ (λ e. protects b i o n d runs few e .room .row)
 
--- ---- the host's tables with the row added, and the other parts of the escrow replaced
+-- ---- it uses no byte of a record, and shows none
 
-abbrev pub replaceEscrow : Tables → EscrowResult → Tables
-replaceEscrow t r =
-    record {
-      box = r .held;
-      heaps = t .heaps;
-      shared = t .shared;
-      logRows = logRowsWith (t .box) (r .added) (t .logRows);
-      logValues = t .logValues;
-      escrowRows = escrowRowsWith (t .box) (r .added) (t .escrowRows);
-      escrowValues = r .values;
-    }
+protected-alone : (r : ℕ) (b : BoxRecord) (rows : List EscrowRow) (values : List ℕ) (i j : ℕ) (d : Draw) (v : List ℕ)
+    → ShowsNone (protectUnless r b rows values i j d v .change .answer)
+unfolding protectUnless settled moreEscrow
+protected-alone zero b rows values i j d v = (refl, refl)
+protected-alone (suc r) b rows values i j d v = (refl, refl)
+
+pub protect-alone : (b : BoxRecord) (rows : List EscrowRow) (heaps values : List ℕ) (i o n : ℕ) (d : Draw)
+    → ShowsNone (protectOn b rows heaps values i o n d .change .answer)
+unfolding protectOn
+protect-alone b rows heaps values i o n d = protected-alone _ b rows values _ _ _ _
+
+-- ---- the host's tables with the escrow's parts replaced
+
+abbrev pub replaceEscrow : Tables → Stored → Tables
+replaceEscrow t r = changed t (r .change) (t .heaps) (t .shared) (t .logValues) (r .values)
 
 -- and the whole answer
-abbrev pub onEscrow : Tables → EscrowResult → ℕ → Result
-onEscrow t r used = record { tables = replaceEscrow t r; answer = answerOf (r .answer) used [] }
+abbrev pub onEscrow : Tables → Stored → ℕ → Result
+onEscrow t r used = record { tables = replaceEscrow t r; answer = answerOf (r .change .answer) used [] }
 
 abbrev withMore : Tables → EscrowKey → List ℕ → Tables
 withMore t k v = replaceEscrow t (moreEscrow (t .box) (t .escrowValues) k v)
 
 -- one entry more
 added : (s : State) (x : Escrowed) → Room (usedBy (s .escrow)) (length (x .value))
-    → tables (withEscrow s (s .escrow ++ (x ∷ []))) ≡ withMore (tables s) (x .key) (x .value)
-unfolding tables boxRecord withEscrow moreEscrow logRowsWith escrowRowsWith
+    → tables (apply s (escrows x)) ≡ withMore (tables s) (x .key) (x .value)
+unfolding tables boxRecord apply moreEscrow
 added s x room = λ j.
     record {
       box =
@@ -162,7 +157,7 @@ module _ (t : Tables) (k : Valid (stateOf t)) (e : tables (stateOf t) ≡ t) whe
       entry-is = rw (value-is, value-size)
 
     protect-moves : Moves t (withMore t key value) (protect i o n d) (key .handle .0) []
-    unfolding effect number shown stateOf
+    unfolding effect move apply number shown stateOf
     protect-moves =
         record {
           leaves = λ r.
@@ -176,7 +171,7 @@ module _ (t : Tables) (k : Valid (stateOf t)) (e : tables (stateOf t) ≡ t) whe
 
     protect-settled : (r used : ℕ) → settledResult r t (withMore t key value) (key .handle .0) [] used
         ≡ onEscrow t (protectUnless r (t .box) (t .escrowRows) (t .escrowValues) (callerOf (t .box)) i d value) used
-    unfolding protectUnless moreEscrow settled logRowsWith escrowRowsWith
+    unfolding protectUnless moreEscrow settled
     protect-settled zero used = refl
     protect-settled (suc r) used = refl
 

@@ -1,91 +1,57 @@
 -- What protect leaves and answers, on the parts of the box that it is given.
-use Prim.Native.Nat.{ℕ, _+_, _*_, _^_, _≤_}
-use mathlib.Core.Path.{_≡_}
+use Prim.Native.Nat.{ℕ, _+_, _^_}
+use mathlib.Core.Bool.{true}
 use mathlib.Core.List.{List}
-use lib.ListN.{length, getD, take}
+use lib.ListN.{length}
 use lib.Seq.{sets}
 use lib.Dec.{eqb, leb}
 use Rattle.record.specs.declared.Draw.{Draw}
 use Rattle.ideal.specs.declared.BoxRecord.{BoxRecord}
 use Rattle.ideal.specs.declared.EscrowRow.{EscrowRow}
-use Rattle.ideal.specs.declared.Used.{Used}
-use Rattle.ideal.specs.State.{EscrowKey, Escrowed, part}
+use Rattle.ideal.specs.State.{EscrowKey, part}
 use Rattle.ideal.specs.Step.{freeHandle, accept, _then_, first, beyond}
-use Rattle.ideal.specs.Tables.{escrowTable, entriesOf}
-use Rattle.ideal.specs.Fit.{RowsFit}
-use Rattle.state.specs.declared.Answer.{Answer}
-use Rattle.state.specs.declared.Added.{Added}
-use Rattle.state.specs.declared.Added.the-variants.{Nothing, Escrow}
-use Rattle.state.specs.declared.BoxAnswer.{BoxAnswer}
+use Rattle.ideal.specs.Tables.{escrowTable}
 use Rattle.state.specs.Counts.{fullBy}
+use Rattle.state.specs.Parts.{callerOf, heapByte, escrowOf}
 use Rattle.state.specs.Answers.{refusedWith, acceptedWith, settled}
-
--- ---- what callers of protect and of retrieve show
-
--- the used rows are rows of the table, and lie within its value bytes
-pub record EscrowFits (used : Used) (rows : List EscrowRow) (values : List ℕ) : Type 0 where
-  pub few : used .rows ≤ 64
-  pub size : length values ≡ 4096
-  pub fit : RowsFit escrowTable rows (used .rows) (length values)
-
--- ---- parts of the box
-
--- the identity of the program that runs
-abbrev pub callerOf : BoxRecord → ℕ
-callerOf b = getD (b .identities) (b .running) 0
-
--- place p has the 256 bytes from 256 times p
-abbrev pub heapByte : BoxRecord → ℕ → ℕ
-heapByte b o = 256 * b .running + o
-
--- the escrow that the used rows stand for
-abbrev pub escrowOf : BoxRecord → List EscrowRow → List ℕ → List Escrowed
-escrowOf b rows values = entriesOf escrowTable values (take (b .escrow .rows) rows)
-
--- ---- protect
-
-pub record EscrowResult : Type 0 where
-  pub held : BoxRecord
-  pub added : Added
-  pub values : List ℕ
-  pub answer : Answer
-
--- an answer with the value bytes at exit
-abbrev pub resultOf : BoxAnswer → List ℕ → EscrowResult
-resultOf r values = record { held = r .held; added = r .added; values = values; answer = r .answer }
-
-abbrev pub keptEscrow : BoxRecord → List ℕ → Answer → EscrowResult
-keptEscrow b values answer = record { held = b; added = Nothing; values = values; answer = answer }
+use Rattle.state.specs.Edits.{noLogEdit, Stored, kept, raised}
 
 -- one row and its value more
-unfoldable pub moreEscrow : BoxRecord → List ℕ → EscrowKey → List ℕ → EscrowResult
+unfoldable pub moreEscrow : BoxRecord → List ℕ → EscrowKey → List ℕ → Stored
 moreEscrow b values k v =
     let used = b .escrow in
     record {
-      held =
+      change =
           record {
-            taken = b .taken;
-            running = b .running;
-            identities = b .identities;
-            log = b .log;
-            escrow = record { rows = used .rows + 1; bytes = used .bytes + length v };
+            held =
+                record {
+                  taken = b .taken;
+                  running = b .running;
+                  identities = b .identities;
+                  log = b .log;
+                  escrow = raised used (length v);
+                };
+            edits =
+                record {
+                  log = noLogEdit;
+                  escrow = record { put = true; at = used .rows; row = escrowTable .row k (used .bytes) (length v) };
+                };
+            answer = acceptedWith (k .handle .0);
           };
-      added = Escrow (escrowTable .row k (used .bytes) (length v));
       values = sets values (used .bytes) v;
-      answer = acceptedWith (k .handle .0);
     }
 
 -- a value protected by a source for a recipient under the first free handle, unless it is refused
 unfoldable pub protectUnless : (refusal : ℕ) → BoxRecord → List EscrowRow → (values : List ℕ) → (source recipient : ℕ) → Draw
-    → (value : List ℕ) → EscrowResult
+    → (value : List ℕ) → Stored
 protectUnless refusal b rows values source recipient d v =
     let handle = freeHandle (length v) d (escrowOf b rows values) in
-    settled refusal (keptEscrow b values (refusedWith refusal))
+    settled refusal (kept b values (refusedWith refusal))
     (moreEscrow b values (record { source = source; recipient = recipient; handle = handle }) v)
 
 -- the last two of protect's tests alone
 unfoldable pub protectValue : BoxRecord → List EscrowRow → (values : List ℕ) → (source recipient : ℕ) → Draw
-    → (value : List ℕ) → EscrowResult
+    → (value : List ℕ) → Stored
 protectValue b rows values source recipient d v =
     protectUnless (first ((12, leb (2 ^ 48) (d .0)) then (14, fullBy (b .escrow) (length v)) then accept))
     b rows values source recipient d v
@@ -97,6 +63,6 @@ protectRefusal b i o n d =
     then (14, fullBy (b .escrow) n) then accept)
 
 unfoldable pub protectOn : BoxRecord → List EscrowRow → (heaps values : List ℕ) → (recipient offset size : ℕ) → Draw
-    → EscrowResult
+    → Stored
 protectOn b rows heaps values i o n d =
     protectUnless (protectRefusal b i o n d) b rows values (callerOf b) i d (part heaps (heapByte b o) n)

@@ -2,8 +2,11 @@
 ghost use mathlib.Core.Path.{_≡_};
 ghost use Prim.Native.Nat.{_≤_};
 ghost use lib.ListN.{length};
+ghost use Rattle.ideal.specs.Tables.{escrowTable};
 ghost use Rattle.state.specs.Counts.{Room};
-ghost use Rattle.escrow.specs.Narrow.{EscrowFits, resultOf, moreEscrow, protectValue, protectOn};
+ghost use Rattle.state.specs.Edits.{stored};
+ghost use Rattle.state.specs.Parts.{TableFits};
+ghost use Rattle.escrow.specs.Narrow.{moreEscrow, protectValue, protectOn};
 use buffers::put;
 use handles::free_handle;
 use ideal::BoxRecord;
@@ -11,11 +14,13 @@ use ideal::EscrowRow;
 use ideal::Used;
 use record::Draw;
 use record::Handle;
-use state::Added;
-use state::BoxAnswer;
+use state::Change;
+use state::Edits;
+use state::EscrowEdit;
 use state::EscrowTable;
 use state::accepted;
 use state::is_full;
+use state::no_log_edit;
 use state::refuse;
 
 // One row and its value more.
@@ -26,9 +31,9 @@ fn escrow_more(
     recipient: u64,
     handle: Handle,
     value: &[u8],
-) -> BoxAnswer
+) -> Change
     requires { ⌜ (length (now values) ≡ 4096) × Room (b .escrow) (length (now value)) ⌝ }
-    ensures { λ r. ⌜ resultOf r (now (values .exit)) ≡ moreEscrow b (now (values .entry)) (record { source = source; recipient = recipient; handle = handle }) (now (value .entry)) ⌝ }
+    ensures { λ r. ⌜ stored r (now (values .exit)) ≡ moreEscrow b (now (values .entry)) (record { source = source; recipient = recipient; handle = handle }) (now (value .entry)) ⌝ }
 {
     let used = b.escrow;
     let size = value.len() as u16;
@@ -46,9 +51,18 @@ fn escrow_more(
     };
     let mut next = b;
     next.escrow = raised;
-    BoxAnswer {
+    let edit = EscrowEdit {
+        put: true,
+        at: used.rows as usize,
+        row,
+    };
+    let edits = Edits {
+        log: no_log_edit(),
+        escrow: edit,
+    };
+    Change {
         held: next,
-        added: Added::Escrow(row),
+        edits,
         answer: accepted(handle.0),
     }
 }
@@ -62,9 +76,9 @@ fn protect_value(
     recipient: u64,
     draw: Draw,
     value: &[u8],
-) -> BoxAnswer
+) -> Change
     requires { ⌜ (b .escrow .rows ≤ 64) × (length (now values) ≡ 4096) × (length (now value) ≤ 256) ⌝ }
-    ensures { λ r. ⌜ resultOf r (now (values .exit)) ≡ protectValue b (escrow .rows) (now (values .entry)) source recipient draw (now (value .entry)) ⌝ }
+    ensures { λ r. ⌜ stored r (now (values .exit)) ≡ protectValue b (escrow .rows) (now (values .entry)) source recipient draw (now (value .entry)) ⌝ }
 {
     if draw.0 >= 281474976710656 {
         return refuse(b, 12);
@@ -88,9 +102,9 @@ pub fn protect(
     offset: u16,
     size: u16,
     draw: Draw,
-) -> BoxAnswer
-    requires { ⌜ (b .running ≤ 16) × (length (now heaps) ≡ 4096) × EscrowFits (b .escrow) (escrow .rows) (now values) ⌝ }
-    ensures { λ r. ⌜ resultOf r (now (values .exit)) ≡ protectOn b (escrow .rows) (now (heaps .entry)) (now (values .entry)) recipient offset size draw ⌝ }
+) -> Change
+    requires { ⌜ (b .running ≤ 16) × (length (now heaps) ≡ 4096) × TableFits escrowTable (b .escrow) (escrow .rows) (now values) ⌝ }
+    ensures { λ r. ⌜ stored r (now (values .exit)) ≡ protectOn b (escrow .rows) (now (heaps .entry)) (now (values .entry)) recipient offset size draw ⌝ }
 {
     if b.running == 16 {
         return refuse(b, 4);

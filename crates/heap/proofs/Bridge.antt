@@ -1,5 +1,5 @@
 -- What the calls on heaps do to the tables of a valid state is the step of that state, laid out. Assumes nothing.
-use Prim.Native.Nat.{ℕ, _+_}
+use Prim.Native.Nat.{ℕ}
 use mathlib.Core.Path.{_≡_, refl, sym, ap, _∙_}
 use mathlib.Core.List.{List, []}
 use native.Mathlib.Omega.{arith}
@@ -7,21 +7,22 @@ use lib.ListN.{length}
 use lib.Seq.{sets}
 use Rattle.record.specs.Call.{heapWrite, heapRead}
 use Rattle.ideal.specs.State.{part, heapAt, ownPart}
-use Rattle.ideal.specs.Step.{idle, tests, refusal, effect, number, shown, step}
+use Rattle.ideal.specs.Step.{idle, tests, refusal, move, apply, effect, number, shown, step}
 use Rattle.ideal.specs.Tables.{Tables, tables, stateOf}
 use Rattle.ideal.specs.Box.{laid}
 use Rattle.ideal.specs.Valid.{Valid}
 use Rattle.ideal.proofs.HeapBytes.{replaceHeaps, own-bytes, written-bytes}
 use Rattle.ideal.proofs.Table.{part-length}
+use Rattle.state.specs.Parts.{heapByte}
 use Rattle.state.proofs.Settled.{answerOf, part-settled, Moves, laid-step}
-use Rattle.shared.proofs.Bridge.{Shows, shows}
-use Rattle.heap.specs.Narrow.{heapByte, heapRefusal, heapWriteAnswer, heapWriteHeaps, heapReadAnswer, heapReadOutput}
+use Rattle.state.proofs.Showing.{Shows, shows}
+use Rattle.heap.specs.Narrow.{heapRefusal, heapWriteAnswer, heapWriteHeaps, heapReadAnswer, heapReadOutput}
 use Rattle.heap.proofs.Ranges.{heap-fits}
 
 module _ (t : Tables) (k : Valid (stateOf t)) (e : tables (stateOf t) ≡ t) where
   heap-write-moves : (p o : ℕ) (v : List ℕ)
       → Moves t (replaceHeaps t (sets (t .heaps) (heapByte (t .box) o) v)) (heapWrite p o v) (length v) []
-  unfolding effect number shown refusal tests heapRefusal idle stateOf
+  unfolding effect move apply number shown refusal tests heapRefusal idle stateOf
   heap-write-moves p o v =
       record {
         leaves = λ r. let f = heap-fits (t .box .running) p o (length v) r in written-bytes t k e o v (f .runs) (f .within);
@@ -52,7 +53,7 @@ module _ (t : Tables) (k : Valid (stateOf t)) (e : tables (stateOf t) ≡ t) whe
 
   pub heap-read-step : (p o n : ℕ) (output : List ℕ) (used : ℕ)
       → Shows t (heapRead p o n) used (heapReadAnswer (t .box) p o n) output (heapReadOutput (t .box) (t .heaps) output p o n)
-  unfolding heapReadAnswer heapReadOutput effect number shown refusal tests heapRefusal idle stateOf
+  unfolding heapReadAnswer heapReadOutput effect move apply number shown refusal tests heapRefusal idle stateOf
   heap-read-step p o n output used =
       shows t used n (part (t .heaps) (heapByte (t .box) o) n) output (heapRead p o n) e
       (record { leaves = λ r. e; answers = λ r. refl; shows = own-shown p o n })

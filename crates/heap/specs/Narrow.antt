@@ -1,28 +1,21 @@
 -- What heap write and heap read answer and leave, on the parts of the box that they are given.
-use Prim.Native.Nat.{ℕ, _+_, _*_}
+use Prim.Native.Nat.{ℕ}
 use mathlib.Core.Bool.{not}
-use mathlib.Core.List.{List}
-use lib.ListN.{length}
+use mathlib.Core.List.{List, _++_}
+use lib.ListN.{length, drop}
 use lib.Seq.{sets}
 use lib.Dec.{eqb, ltb}
 use Rattle.ideal.specs.declared.BoxRecord.{BoxRecord}
-use Rattle.ideal.specs.Step.{Tests, _then_, first}
+use Rattle.ideal.specs.State.{part}
+use Rattle.ideal.specs.Step.{accept, _then_, first, beyond}
 use Rattle.state.specs.declared.Answer.{Answer}
-use Rattle.state.specs.Answers.{settled, answered}
-use Rattle.shared.specs.Narrow.{rangeTests, showed, fronted}
+use Rattle.state.specs.Answers.{settled, answered, showed}
+use Rattle.state.specs.Parts.{heapByte}
 
--- ---- refusals: the tests of the box, on numbers
-
-abbrev pub heapTests : (running place offset size : ℕ) → Tests
-heapTests r p o n = (4, eqb r 16) then (6, ltb 15 p) then (8, not (eqb p r)) then rangeTests 256 o n
-
+-- the tests of the box, on numbers
 unfoldable pub heapRefusal : (running place offset size : ℕ) → ℕ
-heapRefusal r p o n = first (heapTests r p o n)
-
--- ---- heaps: the running place has the 256 bytes from 256 times it
-
-abbrev pub heapByte : BoxRecord → ℕ → ℕ
-heapByte b o = 256 * b .running + o
+heapRefusal r p o n =
+    first ((4, eqb r 16) then (6, ltb 15 p) then (8, not (eqb p r)) then (11, beyond 256 o n) then accept)
 
 unfoldable pub heapWriteAnswer : BoxRecord → (place offset : ℕ) → List ℕ → Answer
 heapWriteAnswer b p o v = answered (heapRefusal (b .running) p o (length v)) (length v)
@@ -35,4 +28,4 @@ heapReadAnswer b p o n = showed (heapRefusal (b .running) p o n) n
 
 unfoldable pub heapReadOutput : BoxRecord → (heaps output : List ℕ) → (place offset size : ℕ) → List ℕ
 heapReadOutput b heaps output p o n =
-    settled (heapRefusal (b .running) p o n) output (fronted heaps output (heapByte b o) n)
+    settled (heapRefusal (b .running) p o n) output (part heaps (heapByte b o) n ++ drop n output)

@@ -3,13 +3,14 @@ ghost use mathlib.Core.Path.{_≡_};
 ghost use Prim.Native.Nat.{_+_, _*_};
 ghost use lib.ListN.{length};
 ghost use Rattle.heap.specs.Narrow.{heapRefusal, heapWriteAnswer, heapWriteHeaps, heapReadAnswer, heapReadOutput};
+use buffers::beyond;
 use buffers::put;
+use buffers::show;
 use ideal::BoxRecord;
-use shared::range_refusal;
-use shared::show;
 use state::Answer;
 use state::accepted;
 use state::refused;
+use state::shown;
 
 fn heap_refusal(running: u8, place: u8, offset: u16, size: usize) -> u8
     ensures { λ r. ⌜ r ≡ heapRefusal running place offset size ⌝ }
@@ -23,7 +24,10 @@ fn heap_refusal(running: u8, place: u8, offset: u16, size: usize) -> u8
     if place != running {
         return 8;
     }
-    range_refusal(256, offset, size)
+    if beyond(256, offset, size) {
+        return 11;
+    }
+    0
 }
 
 // Place p has the 256 bytes from 256 times p.
@@ -65,5 +69,6 @@ pub fn heap_read(
     if refusal != 0 {
         return refused(refusal);
     }
-    show(heaps, output, heap_byte(running, offset), size)
+    show(heaps, output, heap_byte(running, offset), size);
+    shown(size)
 }

@@ -1,29 +1,22 @@
 -- An answer with code 0 is that of an accepted call. Assumes nothing.
 use Prim.Native.Nat.{ℕ}
-use mathlib.Core.Path.{_≡_, refl, sym, ap, _∙_}
-use mathlib.Core.Bool.{Bool, true, false, _&&_, false≢true}
-use mathlib.Core.List.{List, [], _∷_}
-use mathlib.Core.Option.{some}
+use mathlib.Core.Path.{_≡_, sym, ap, _∙_}
+use mathlib.Core.Bool.{_&&_}
 use native.Mathlib.Omega.{arith}
-use borrow.Author.Tests.{ltb-false}
-use Rattle.record.specs.Call.{Call, create, start, yield, exit, heapWrite, heapRead, sharedWrite, sharedRead, attest, check, protect, retrieve, report}
+use Rattle.record.specs.Call.{Call}
 use Rattle.record.specs.Read.{whole, read}
-use Rattle.record.specs.Write.{filled}
-use Rattle.ideal.specs.State.{State, any}
-use Rattle.ideal.specs.Step.{Answer, tests, refusal, beyond, number, shown, refusedAnswer, accepted}
-use Rattle.ideal.specs.Tables.{Tables, tables, boxRecord, stateOf}
+use Rattle.ideal.specs.State.{State}
+use Rattle.ideal.specs.Step.{Answer, refusal, refusedAnswer, accepted}
+use Rattle.ideal.specs.Tables.{Tables, tables, stateOf}
 use Rattle.ideal.specs.Soundness.{sizesRight, sound}
 use Rattle.ideal.specs.Box.{Element, laid, unsound, callOn}
 use Rattle.ideal.specs.Layouts.{Sound}
-use Rattle.ideal.specs.Refusals.{oneOf}
-use Rattle.ideal.specs.Answers.{plainNumber, Answered, AcceptedAnswers}
-use Rattle.ideal.proofs.Bools.{by-cases, and-left, and-right}
-use Rattle.ideal.proofs.Chain.{failed, passed}
+use Rattle.ideal.specs.Answers.{AcceptedAnswers}
 use Rattle.ideal.specs.Valid.{Valid}
-use Rattle.ideal.proofs.Kept.{busy}
+use Rattle.lists.proofs.Bools.{by-cases, and-left, and-right}
 use Rattle.ideal.proofs.Laid.{stepElement, valid-sound, tables-state, call-is}
-use Rattle.ideal.proofs.OwnHeap.{own-bytes}
 use Rattle.ideal.proofs.Runs.{accepted-call, call-accepted}
+use Rattle.ideal.proofs.ByKind.{answered}
 
 pub record Accepted (s : State) (c : Call) (used : ℕ) (a : Answer) : Type 0 where
   pub passes : refusal s c ≡ 0
@@ -43,35 +36,25 @@ sound-of t e z =
     (λ b. record { sizes = and-left (sizesRight t (e .outputSize)) _ b; box = and-right (sizesRight t (e .outputSize)) _ b })
     (λ b. absurd (let q : 15 ≡ 0 = rw b at z in omega arith))
 
--- ---- what it answers, kind by kind
+-- an accepted call on any tables, and the state that they stand for
+pub record OnState (t : Tables) (c : Call) (used : ℕ) (a : Answer) : Type 0 where
+  pub valid : Valid (stateOf t)
+  pub back : tables (stateOf t) ≡ t
+  pub call : Accepted (stateOf t) c used a
 
-answered : (s : State) (c : Call) (used : ℕ) → Valid s → refusal s c ≡ 0 → Answered (tables s) c used (accepted s c used .answer)
-unfolding accepted number shown plainNumber tables boxRecord oneOf any filled refusal tests beyond
-answered s (create p i) used k r = record { number = λ n e. cc; used = refl; shown = λ h. refl }
-answered s (start p) used k r = record { number = λ n e. cc; used = refl; shown = λ h. refl }
-answered s yield used k r = record { number = λ n e. cc; used = refl; shown = λ h. refl }
-answered s exit used k r = record { number = λ n e. cc; used = refl; shown = λ h. refl }
-answered s (heapWrite p o v) used k r = record { number = λ n e. cc; used = refl; shown = λ h. refl }
-answered s (heapRead p o m) used k r = record { number = λ n e. cc; used = refl; shown = λ h. absurd (false≢true (sym h)) }
-answered s (sharedWrite o v) used k r = record { number = λ n e. cc; used = refl; shown = λ h. refl }
-answered s (sharedRead o m) used k r = record { number = λ n e. cc; used = refl; shown = λ h. absurd (false≢true (sym h)) }
-answered s (attest o m) used k r =
-    let f = ltb-false 256 _ (failed 10 _ _ (passed 3 _ _ r)) in
-    let own = own-bytes s k (busy s k (failed 3 _ _ r)) o m f in
-    record { number = λ n e. cc own; used = refl; shown = λ h. refl }
-answered s (check i g v) used k r = record { number = λ n e. cc; used = refl; shown = λ h. refl }
-answered s (protect i o m d) used k r = record { number = λ n e. cc; used = refl; shown = λ h. refl }
-answered s (retrieve i o h) used k r = record { number = λ n e. cc; used = refl; shown = λ h. refl }
-answered s report used k r = record { number = λ n e. cc; used = refl; shown = λ h. refl }
-
-pub accepted-answers : AcceptedAnswers callOn
+pub on-state : (t : Tables) (e : Element) (c : Call) (used : ℕ) → read (e .bytes) ≡ whole c used → callOn t e .answer .code ≡ 0
+    → OnState t c used (callOn t e .answer)
 unfolding laid
-accepted-answers t e c used y z =
+on-state t e c used y z =
     let ok = sound-of t e z in
     let s = stateOf t in
     let back = tables-state t (e .outputSize) ok in
     let k = valid-sound t (e .outputSize) ok in
     let q : callOn t e .answer ≡ stepElement s e .answer =
     ap (λ x. callOn x e .answer) (sym back) ∙ ap (λ x. x .answer) (call-is s e k) in
-    let a = accepted-of s e c used y (sym (ap (λ x. x .code) q) ∙ z) in
-    rw (q, a .is) (rw back at (answered s c used k (a .passes)))
+    record { valid = k; back = back; call = rw q (accepted-of s e c used y (sym (ap (λ x. x .code) q) ∙ z)) }
+
+pub accepted-answers : AcceptedAnswers callOn
+accepted-answers t e c used y z =
+    let o = on-state t e c used y z in
+    rw (o .call .is) (rw (o .back) at (answered (stateOf t) c used (o .valid) (o .call .passes)))

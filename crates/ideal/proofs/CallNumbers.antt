@@ -18,7 +18,7 @@ use Rattle.ideal.specs.Step.{isPair, paired, full, isEscrowed, found, ab
 use Rattle.ideal.specs.Tables.{RowsOf, logTable, escrowTable, rowsFrom, entryOf, entriesOf, boxRecord, tables, usedLog, usedEscrow, stateOf}
 use Rattle.ideal.specs.Valid.{Valid}
 use Rattle.ideal.specs.Refusals.{callerIn, ownBytes, oneOf, isRow, holdsPair, isMissing, lengthIn, callConditions}
-use Rattle.ideal.proofs.Bools.{by-cases, or-nil}
+use Rattle.lists.proofs.Bools.{by-cases, or-nil}
 use Rattle.ideal.proofs.Table.{escrow-lawful, used-rows}
 use Rattle.ideal.proofs.Conditions.{firstOf}
 use Rattle.ideal.proofs.Memory.{taken-at}

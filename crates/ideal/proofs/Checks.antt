@@ -15,13 +15,14 @@ use Rattle.ideal.specs.Step.{isLogged, logged, tests, first, refusal, nu
 use Rattle.ideal.specs.Tables.{stateOf}
 use Rattle.ideal.specs.Box.{Element, laid, callOn, elementAt}
 use Rattle.ideal.specs.Accuracy.{LogsAt, Says, Sized, CheckAt, LongCheckIsNo}
-use Rattle.ideal.proofs.Bools.{by-cases, clash, and-left, and-right, and-false, or-false}
-use Rattle.ideal.proofs.Lists.{same-bytes}
+use Rattle.lists.proofs.Bools.{by-cases, clash, and-left, and-right, and-false, or-false}
+use Rattle.lists.proofs.Lists.{same-bytes}
 use Rattle.ideal.proofs.Facts.{output-size}
 use Rattle.ideal.proofs.Laid.{valid-sound, tables-state, call-is}
 use Rattle.ideal.proofs.Chain.{failed}
 use Rattle.ideal.proofs.Runs.{stateBefore, valid-before, caller-before, accepted-at, accepts-at, accepted-call, Accepted, number-at}
-use Rattle.ideal.proofs.Logs.{attest-passed, logged-since}
+use Rattle.ideal.proofs.Does.{attest-passed}
+use Rattle.ideal.proofs.Logs.{logged-since}
 
 check-refusal : (s : State) (i : ℕ) (g : Tag) (v : List ℕ) → (i ≡ 0 → ⊥) → refusal s (check i g v) ≡ 0
 unfolding refusal tests first
@@ -40,7 +41,7 @@ logs-named : (es : List Element) (k i : ℕ) (g : Tag) (v : List ℕ) → LogsAt
 logs-named es k i g v l e =
     let a = accepted-at es k (attest (l .offset) (l .size)) (l .used) (l .reads) (l .accepts) in
     let w = attest-passed (stateBefore es k) (l .offset) (l .size) (valid-before es k) (a .passes) in
-    valid-before es k .live (w .0) (sym (caller-before es k) ∙ l .by ∙ e)
+    valid-before es k .live (w .runs) (sym (caller-before es k) ∙ l .by ∙ e)
 
 pub same-cond : (n : ℕ) (a b : Bool) → cond a (suc n) 0 ≡ cond b (suc n) 0 → a ≡ b
 same-cond n true true e = refl

@@ -6,7 +6,7 @@ use mathlib.Core.Bool.{Bool, true, cond}
 use mathlib.Core.List.{List, [], _∷_, _++_}
 use Rattle.ideal.specs.State.{every}
 use Rattle.ideal.specs.Refusals.{First, here, later, none-holds}
-use Rattle.ideal.proofs.Bools.{and-left, and-right, by-cases}
+use Rattle.lists.proofs.Bools.{and-left, and-right, by-cases}
 
 -- the number of the first condition that holds; 0 where none does
 unfoldable pub firstOf : List (ℕ × Bool) → ℕ

@@ -5,13 +5,13 @@ use mathlib.Core.Bool.{Bool, true, false}
 use mathlib.Core.List.{List, [], _∷_, map}
 use native.Mathlib.Omega.{arith}
 use lib.ListN.{length, getD, take}
-use Rattle.record.specs.Call.{Call, create, start, yield, exit, heapWrite, heapRead, sharedWrite, sharedRead, attest, check, protect, retrieve, report}
+use Rattle.record.specs.Call.{Call, heapWrite, protect}
 use Rattle.record.specs.Layout.{stands, kinds, among, kindOf}
 use Rattle.record.specs.Read.{whole, read, fromLittle, field, contents, bytesField, fields, readFields, readKind, afterMap}
 use Rattle.record.specs.Write.{write, only, recordOf, filled, recordIn}
 use Rattle.fnv.specs.Fnv.{little}
-use Rattle.ideal.specs.State.{State, fresh, cleared, heapAt, caller, ownPart, any, find, bytesUsed}
-use Rattle.ideal.specs.Step.{accepted, settle, step as carry, onReading, stepOn, effect, refusal, first, tests, idle, vacant, beyond, full, isEscrowed, found, absent, valueIn, hasHandle, handleOf, next, freeFrom, freeHandle, paired, withHeap, withRunning, withIdentity, withLog, withEscrow, written, protected}
+use Rattle.ideal.specs.State.{State, Move, nothing, takes, activates, empties, writes, shares, logs, escrows, fresh, cleared, heapAt, caller, ownPart, any, find, bytesUsed}
+use Rattle.ideal.specs.Step.{accepted, settle, step as carry, onReading, stepOn, effect, refusal, first, tests, idle, vacant, beyond, full, isEscrowed, found, absent, valueIn, hasHandle, handleOf, next, freeFrom, freeHandle, paired, pairOf, protected, move, apply}
 use Rattle.ideal.specs.Tables.{boxRecord, tables, freshTables}
 use Rattle.ideal.specs.Box.{laid, callOn, elementAt, tablesFrom, tablesAfter, tablesBefore, answerAt}
 use Rattle.ideal.specs.Refusals.{ownBytes}
@@ -19,11 +19,14 @@ use Rattle.ideal.specs.Secrecy.{inside, groupRuns, AlikeAt, same, other-
 use Rattle.ideal.specs.Witness.{group, calls, element, elements, PremisesCanBeMet}
 use Rattle.ideal.specs.Valid.{Valid}
 use Rattle.ideal.proofs.Laid.{stepElement, valid-fresh, valid-effect, fresh-tables, call-is}
+use Rattle.lists.proofs.Bools.{and-false, and-other}
 use Rattle.ideal.proofs.Hosted.{byte-is}
 use Rattle.ideal.proofs.OwnHeap.{own-bytes as own-heap}
-use Rattle.ideal.proofs.TwoStates.{SameBut, same-state, AlikeCalls, same-call, other-call, same-effect}
-use Rattle.ideal.proofs.TwoRuns.{Pairing, ended, both, by-index}
-use Rattle.ideal.proofs.Secret.{held, Disclosed, none-told, runs-below, protect-fits}
+use Rattle.ideal.proofs.TwoStates.{SameBut, same-state, AlikeCalls, same-call, other-call, NoneTold}
+use Rattle.ideal.proofs.ByKind.{same-effect}
+use Rattle.ideal.proofs.TwoRuns.{Indexed, ended, both}
+use Rattle.ideal.proofs.Secret.{held, runs-below}
+use Rattle.ideal.proofs.Does.{protect-passed}
 
 -- ---- a list of calls, each read back from its record and accepted
 
@@ -77,36 +80,40 @@ abbrev Unless : Bool → Type 0 → Type 0
 Unless true X = Unit {0}
 Unless false X = X
 
--- what the premise asks of an accepted call
-abbrev Known : State → State → Call → Type 0
-Known s t (create p i) = Unit {0}
-Known s t (start p) = Unit {0}
-Known s t yield = Unit {0}
-Known s t exit = Unit {0}
-Known s t (heapWrite p o v) = Unit {0}
-Known s t (heapRead p o n) = Unit {0}
-Known s t (sharedWrite o v) = Unit {0}
-Known s t (sharedRead o n) = Unit {0}
-Known s t (attest o n) = ownPart s o n ≡ ownPart t o n
-Known s t (check i g v) = Unit {0}
-Known s t (protect i o n d) = Unless (inside group i) (ownPart s o n ≡ ownPart t o n)
-Known s t (retrieve i o h) = Unit {0}
-Known s t report = Unit {0}
+-- what the premise asks of an accepted call, by its moves in both states
+abbrev Known : Move → Move → Type 0
+Known nothing n = Unit {0}
+Known (takes p i) n = Unit {0}
+Known (activates p) n = Unit {0}
+Known (empties p) n = Unit {0}
+Known (writes p o v) n = Unit {0}
+Known (shares o v) n = Unit {0}
+Known (logs e) n = logs e ≡ n
+Known (escrows e) n = Unless (inside group (e .key .recipient)) (escrows e ≡ n)
 
 data Steps : State → State → List Call → List Call → Type 0 where
   end : {s t : State} → Steps s t [] []
-  step : {s t : State} {c d : Call} {cs ds : List Call} → AlikeCalls (held group) s c d → Known s t c
+  step : {s t : State} {c d : Call} {cs ds : List Call} → AlikeCalls (held group) s c d → Known (move s c) (move t c)
       → Steps (effect s c) (effect t d) cs ds → Steps s t (c ∷ cs) (d ∷ ds)
 
-alike : {s t : State} {c : Call} {cs ds : List Call} → Known s t c → Steps (effect s c) (effect t c) cs ds
+alike : {s t : State} {c : Call} {cs ds : List Call} → Known (move s c) (move t c) → Steps (effect s c) (effect t c) cs ds
     → Steps s t (c ∷ cs) (c ∷ ds)
 alike {c = c} k rest = step (same-call c) k rest
 
-disclosed : {s t : State} {c : Call} → Known s t c → Disclosed group s t c
-disclosed {s} {t} k =
+told : {s t : State} {c : Call} → Known (move s c) (move t c) → NoneTold (held group) s t c
+unfolding move protected
+told {s} {t} k =
     record {
-      attests = λ g o n q h. subst (Known s t) q k;
-      protects = λ g i o n d q out r. subst (λ b. Unless b (ownPart s o n ≡ ownPart t o n)) out (subst (Known s t) q k);
+      attests = λ g o n q h.
+          let m = subst (λ x. Known (move s x) (move t x)) q k in
+          let e : pairOf (caller s) (ownPart s o n) ≡ pairOf (caller t) (ownPart t o n) = cc in
+          ap (λ x. x .value) e;
+      protects = λ g i o n d q out r.
+          let known = subst (λ x. Known (move s x) (move t x)) q k in
+          let m = subst (λ b. Unless b (move s (protect i o n d) ≡ move t (protect i o n d))) (and-other _ _ g out) known in
+          let e : protected s i o n d ≡ protected t i o n d = cc in
+          ap (λ x. x .value) e;
+      retrieves = λ g i o h q r. and-false (inside group i) _ g;
     }
 
 whole-call : {c d : Call} {m n : ℕ} → whole c m ≡ whole d n → c ≡ d
@@ -126,14 +133,14 @@ module _ {s t : State} {c : Call} (k : SameBut (held group) s t) (v : Valid s) (
       let e = k .running in
       own-heap s v b o n h ∙ q ∙ sym (own-heap t w (omega arith) o n h)
 
-  premise-at : refusal s c ≡ 0 → Disclosed group s t c → PremiseAt callOn group (tables s) (tables t) (element c)
-  unfolding groupRuns tables boxRecord element
+  premise-at : refusal s c ≡ 0 → NoneTold (held group) s t c → PremiseAt callOn group (tables s) (tables t) (element c)
+  unfolding groupRuns tables boxRecord element protected
   premise-at p m =
       record {
         attests = λ g o n u q h. own-bytes o n g h (m .attests g o n (whole-call (sym r ∙ q)) h);
         protects = λ g i o n d u q out _.
             let e = whole-call (sym r ∙ q) in
-            own-bytes o n g (protect-fits s i o n d (rw e at p)) (m .protects g i o n d e out p);
+            own-bytes o n g (protect-passed s i o n d v (rw e at p) .fits) (m .protects g i o n d e (and-false (inside group (caller s)) _ out) p);
       }
 
 alike-at : {s : State} {c d : Call} → AlikeCalls (held group) s c d → read (write c) ≡ whole c (length (write c))
@@ -154,14 +161,14 @@ alike-at (other-call p o v w g n) r r′ =
       outputSize = refl;
     })
 
-pairing : {s t : State} {cs ds : List Call} → SameBut (held group) s t → Valid s → Valid t → Accepted s cs → Accepted t ds
-    → Steps s t cs ds → Pairing callOn group (tables s) (tables t) (map element cs) (map element ds)
-pairing k v w none none end = ended
-pairing k v w (call r p a) (call r′ p′ b) (step {cs = cs} {ds = ds} l m rest) =
-    let next = same-effect (held group) k l (none-told group (disclosed m)) p in
-    both (alike-at l r r′) (premise-at k v w r p (disclosed m))
-    (subst₂ (λ x y. Pairing callOn group x y (map element cs) (map element ds)) (sym (next-tables v r p))
-    (sym (next-tables w r′ p′)) (pairing next (valid-effect _ _ v p) (valid-effect _ _ w p′) a b rest))
+indexed : {s t : State} {cs ds : List Call} → SameBut (held group) s t → Valid s → Valid t → Accepted s cs → Accepted t ds
+    → Steps s t cs ds → Indexed callOn group (tables s) (tables t) (map element cs) (map element ds)
+indexed k v w none none end = ended callOn group
+indexed k v w (call r p a) (call r′ p′ b) (step {cs = cs} {ds = ds} l m rest) =
+    let next = same-effect (held group) k l (told m) p in
+    both callOn group (alike-at l r r′) (premise-at k v w r p (told m))
+    (subst₂ (λ x y. Indexed callOn group x y (map element cs) (map element ds)) (sym (next-tables v r p))
+    (sym (next-tables w r′ p′)) (indexed next (valid-effect _ _ v p) (valid-effect _ _ w p′) a b rest))
 
 -- ---- the witness
 
@@ -172,7 +179,7 @@ record Computed (a b : ℕ) : Type 0 where
 
 -- on the states, with the bytes left open
 computed : (a b : ℕ) → Computed a b
-unfolding after calls group fresh cleared ownPart any find bytesUsed full isEscrowed found absent valueIn hasHandle handleOf next freeFrom freeHandle paired first idle vacant beyond tests refusal withHeap withRunning withIdentity withLog withEscrow written protected effect inside stands kinds among kindOf fromLittle field contents bytesField fields readFields readKind afterMap read only recordOf filled recordIn write little
+unfolding after calls group fresh cleared ownPart any find bytesUsed full isEscrowed found absent valueIn hasHandle handleOf next freeFrom freeHandle paired first idle vacant beyond tests refusal protected move apply effect inside stands kinds among kindOf fromLittle field contents bytesField fields readFields readKind afterMap read only recordOf filled recordIn write little
 computed a b =
     record {
       accepts =
@@ -200,17 +207,17 @@ all-accepted b k l =
     ap (λ t. callOn (tablesFrom callOn t (take k (elements b))) (elementAt (elements b) k) .answer .code) fresh-tables
     ∙ codes valid-fresh (computed b b .accepts) k l
 
-paired-elements : (a b : ℕ) → Pairing callOn group freshTables freshTables (elements a) (elements b)
+indexed-elements : (a b : ℕ) → Indexed callOn group freshTables freshTables (elements a) (elements b)
 unfolding elements
-paired-elements a b =
+indexed-elements a b =
     rw fresh-tables
-    (pairing (same-state (held group) fresh) valid-fresh valid-fresh (computed a b .accepts) (computed b a .accepts)
+    (indexed (same-state (held group) fresh) valid-fresh valid-fresh (computed a b .accepts) (computed b a .accepts)
     (computed a b .steps))
 
 pub premises-can-be-met : PremisesCanBeMet callOn
 unfolding tablesBefore tablesAfter
 premises-can-be-met =
-    let i = by-index callOn group (paired-elements 66 67) in
+    let i = indexed-elements 66 67 in
     record {
       alike = record { long = i .long; alike = i .alike };
       premise = i .premise;

@@ -1,78 +1,52 @@
 -- The escrow holds what earlier accepted protects escrowed, and nothing else. Assumes nothing.
-use Prim.Native.Nat.{ℕ, _+_, _^_, _≤_, _<_}
+use Prim.Native.Nat.{ℕ}
 use mathlib.Core.Path.{_≡_, refl, sym, ap, _∙_}
 use mathlib.Core.Logic.{_↔_, _⊎_, inl, inr}
 use mathlib.Core.Bool.{Bool, true, _&&_, _||_}
 use mathlib.Core.List.{List}
 use mathlib.Core.Option.{some}
 use lib.Dec.{eqb}
-use borrow.Author.Tests.{eqb-true, eqb-false, eq-eqb, ltb-false, leb-false}
+use borrow.Author.Tests.{eqb-true, eq-eqb}
 use Rattle.record.specs.declared.Handle.{Handle}
 use Rattle.record.specs.declared.Draw.{Draw}
-use Rattle.record.specs.Call.{Call, create, start, yield, exit, heapWrite, heapRead, sharedWrite, sharedRead, attest, check, protect, retrieve, report}
+use Rattle.record.specs.Call.{Call, protect}
 use Rattle.record.specs.Read.{whole}
-use Rattle.ideal.specs.State.{Escrowed, State, fresh, caller, any, sameBytes}
-use Rattle.ideal.specs.Step.{isEscrowed, found, hasHandle, protected, tests, refusal, idle, beyond, effect, number, withHeap, withRunning, withIdentity, withShared, withLog, withEscrow, written}
+use Rattle.ideal.specs.State.{Escrowed, State, Move, fresh, caller, any, sameBytes}
+use Rattle.ideal.specs.Step.{isEscrowed, found, hasHandle, protected, move, apply, effect, number}
 use Rattle.ideal.specs.Soundness.{sameHandle}
 use Rattle.ideal.specs.Box.{Element, callOn, elementAt}
 use Rattle.ideal.specs.Accuracy.{Earlier, ProtectsAt, ProtectedBefore}
-use Rattle.ideal.proofs.Bools.{and-left, and-right, and-true}
-use Rattle.ideal.proofs.Chain.{failed, passed}
-use Rattle.ideal.proofs.Lists.{same-bytes, same-bytes-refl, any-append, any-one}
+use Rattle.lists.proofs.Bools.{and-left, and-right, and-true}
+use Rattle.lists.proofs.Lists.{same-bytes, same-bytes-refl, any-append, any-one}
 use Rattle.ideal.proofs.Unique.{finds, found-any}
 use Rattle.ideal.specs.Valid.{Valid}
-use Rattle.ideal.proofs.Kept.{busy}
+use Rattle.ideal.proofs.Does.{ProtectPassed, protect-passed, Does, does-nothing, does-take, does-activate, does-empty, does-write, does-share, does-log, does-escrow}
 use Rattle.ideal.proofs.Runs.{stateBefore, valid-before, caller-before, own-before, accepted-at, accepts-at, Accepted, number-at}
 use Rattle.ideal.proofs.Since.{Fed, AddsAt, since}
 
 -- ---- what accepted protects add
 
-data Protects : Call → Type 0 where
-  protects : (i o n : ℕ) (d : Draw) → Protects (protect i o n d)
+data Protects (s : State) : Call → Type 0 where
+  protects : {i o n : ℕ} {d : Draw} → ProtectPassed s i o n d → Protects s (protect i o n d)
 
-entry : State → (c : Call) → Protects c → Escrowed
-entry s c (protects i o n d) = protected s i o n d
+entry : (s : State) (c : Call) → Protects s c → Escrowed
+entry s c (protects {i = i} {o = o} {n = n} {d = d} a) = protected s i o n d
 
-others : (s : State) (c : Call) → (effect s c .escrow ≡ s .escrow) ⊎ Protects c
-unfolding effect withHeap withRunning withIdentity withShared withLog written
-others s (create p i) = inl refl
-others s (start p) = inl refl
-others s yield = inl refl
-others s exit = inl refl
-others s (heapWrite p o v) = inl refl
-others s (heapRead p o n) = inl refl
-others s (sharedWrite o v) = inl refl
-others s (sharedRead o n) = inl refl
-others s (attest o n) = inl refl
-others s (check i g v) = inl refl
-others s (protect i o n d) = inr (protects i o n d)
-others s (retrieve i o h) = inl refl
-others s report = inl refl
+others : {s : State} {c : Call} {m : Move} → Does s c m → (apply s m .escrow ≡ s .escrow) ⊎ Protects s c
+unfolding apply
+others does-nothing = inl refl
+others (does-take h z n) = inl refl
+others (does-activate h n) = inl refl
+others (does-empty h) = inl refl
+others (does-write w h f) = inl refl
+others (does-share f) = inl refl
+others (does-log a) = inl refl
+others (does-escrow a) = inr (protects a)
 
-more : (test : Escrowed → Bool) (s : State) (c : Call) (kind : Protects c) → Valid s
-    → any test (effect s c .escrow) ≡ any test (s .escrow) || test (entry s c kind)
-unfolding entry effect withEscrow
-more test s c (protects i o n d) valid = rw (any-append test (s .escrow), any-one test)
-
-pub record ProtectPassed (s : State) (i o n : ℕ) (d : Draw) : Type 0 where
-  pub runs : s .running < 16
-  pub named : i ≡ 0 → ⊥
-  pub fits : o + n ≤ 256
-  pub small : d .0 < 2 ^ 48
-
-pub protect-passed : (s : State) (i o n : ℕ) (d : Draw) → Valid s → refusal s (protect i o n d) ≡ 0
-    → ProtectPassed s i o n d
-unfolding refusal tests beyond
-protect-passed s i o n d valid h =
-    let h₁ = passed 3 (idle s) _ h in
-    let h₂ = passed 8 (eqb i 0) _ h₁ in
-    let h₃ = passed 10 _ _ h₂ in
-    record {
-      runs = busy s valid (failed 3 (idle s) _ h);
-      named = eqb-false i 0 (failed 8 (eqb i 0) _ h₁);
-      fits = ltb-false 256 (o + n) (failed 10 _ _ h₂);
-      small = leb-false (2 ^ 48) (d .0) (failed 11 _ _ h₃);
-    }
+more : (test : Escrowed → Bool) (s : State) (c : Call) (a : Protects s c) → Valid s
+    → any test (effect s c .escrow) ≡ any test (s .escrow) || test (entry s c a)
+unfolding entry effect move apply
+more test s c (protects a) valid = rw (any-append test (s .escrow), any-one test)
 
 -- the entry is under this handle, from this source for this recipient, and has this value
 unfoldable pub isHeld : Handle → ℕ → ℕ → List ℕ → Escrowed → Bool
@@ -111,12 +85,11 @@ module _ (es : List Element) (h : Handle) (i r : ℕ) (v : List ℕ) where
 
   protects-at : (k : ℕ) → AddsAt Protects entry (isHeld h i r v) es k → ProtectsAt callOn es i r h v k
   unfolding entry protected number
-  protects-at k x = at (x .call) (x .kind) (x .accepted) (x .passes)
+  protects-at k x = at (x .call) (x .adds) (x .accepted) (x .passes)
     where
-      at : (c : Call) (kind : Protects c) → Accepted (stateBefore es k) (elementAt es k) c (x .used)
-          → isHeld h i r v (entry (stateBefore es k) c kind) ≡ true → ProtectsAt callOn es i r h v k
-      at c (protects j o n d) a p =
-          let w = protect-passed (stateBefore es k) j o n d (valid-before es k) (a .passes) in
+      at : (c : Call) (a : Protects (stateBefore es k) c) → Accepted (stateBefore es k) (elementAt es k) c (x .used)
+          → isHeld h i r v (entry (stateBefore es k) c a) ≡ true → ProtectsAt callOn es i r h v k
+      at c (protects {i = j} {o = o} {n = n} {d = d} w) a p =
           let q = is-held h i r v _ p in
           record {
             offset = o;
@@ -141,7 +114,7 @@ module _ (es : List Element) (h : Handle) (i r : ℕ) (v : List ℕ) where
       record {
         call = protect r o n d;
         used = l .used;
-        kind = protects r o n d;
+        adds = protects w;
         accepted = a;
         passes = held-is h i r v _
             (record {

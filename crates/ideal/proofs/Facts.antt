@@ -10,7 +10,7 @@ use Rattle.ideal.specs.State.{Entry, Logged, Escrowed, every}
 use Rattle.ideal.specs.Tables.{Tables, RowsOf, logTable, escrowTable, rowsFrom, takenMap, chunks, usedLog, usedEscrow, stateOf}
 use Rattle.ideal.specs.Soundness.{All, done, _and_, pass, sizesRight, runningTaken, emptyHeapsZero, short, differ, samePair, sameHandle, hasIdentity, hasIdentities, rightTag, carriesLength, soundTests, sound}
 use Rattle.ideal.specs.Layouts.{Sound}
-use Rattle.ideal.proofs.Bools.{and-left, and-right, and-true, and-assoc}
+use Rattle.lists.proofs.Bools.{and-left, and-right, and-true, and-assoc, and-swap}
 use Rattle.ideal.specs.Valid.{goodLogged, goodEscrowed}
 use Rattle.ideal.proofs.Table.{Lawful, Stands, rows-every, log-lawful, escrow-lawful}
 
@@ -35,12 +35,6 @@ all-pass done h = refl
 all-pass (b and bs) h = and-true b (pass bs) (h .0) (all-pass bs (h .1))
 
 -- ---- a test of rows is a test of entries
-
-pub and-swap : (a b c d : Bool) → (a && b) && (c && d) ≡ (a && c) && (b && d)
-and-swap true true c d = refl
-and-swap true false true d = refl
-and-swap true false false d = refl
-and-swap false b c d = refl
 
 pub every-both : {A : Type 0} (p q r : A → Bool) → ((a : A) → r a ≡ p a && q a) → (l : List A) → every r l ≡ every p l && every q l
 unfolding every

@@ -12,7 +12,7 @@ use Rattle.ideal.specs.declared.Used.{Used}
 use Rattle.ideal.specs.Tables.{RowsOf}
 use Rattle.ideal.specs.Soundness.{chained}
 use Rattle.ideal.specs.Fit.{RowsFit}
-use Rattle.ideal.proofs.Bools.{and-left, and-right}
+use Rattle.lists.proofs.Bools.{and-left, and-right}
 use Rattle.ideal.proofs.Table.{Stands}
 
 module _ {Row Key : Type 0} (t : RowsOf Row Key) where

@@ -12,8 +12,8 @@ use Rattle.record.specs.declared.Handle.{Handle}
 use Rattle.record.specs.declared.Draw.{Draw}
 use Rattle.ideal.specs.State.{Escrowed, any}
 use Rattle.ideal.specs.Step.{hasHandle, handleOf, next, freeFrom, freeHandle}
-use Rattle.ideal.specs.Accuracy.{candidate}
-use Rattle.ideal.proofs.Bools.{by-cases, clash}
+use Rattle.ideal.specs.Accuracy.{iterate, candidate}
+use Rattle.lists.proofs.Bools.{by-cases, clash}
 
 -- ---- more tests than elements, and no element passes two: some test no element passes
 
@@ -70,11 +70,6 @@ module _ {A : Type 0} where
 
 -- ---- the candidates
 
--- f taken k times, from x
-unfoldable pub iterate : (ℕ → ℕ) → ℕ → ℕ → ℕ
-iterate f zero x = x
-iterate f (suc k) x = iterate f k (f x)
-
 -- the first n of c 0, c 1, .. are pairwise different
 abbrev pub Differ : ℕ → (ℕ → ℕ) → Type 0
 Differ n c = (i j : ℕ) → i < j → j < n → c i ≡ c j → ⊥
@@ -90,18 +85,10 @@ next-small k d h = let e = next-is k d h in omega arith
 pub next-differ : (d : ℕ) → d < 2 ^ 48 → Differ 65 (λ k. iterate next k d)
 next-differ d h i j p q e = let a = next-is i d h in let b = next-is j d h in omega arith
 
--- the handle of a draw, k draws later
-unfoldable pub later : ℕ → ℕ → ℕ → Handle
-later size draw k = handleOf size (iterate next k draw)
-
-pub later-is : (size d k : ℕ) → d < 2 ^ 48 → later size d k ≡ candidate size d k
-unfolding later handleOf candidate
-later-is size d k h = rw (next-is k d h)
-
 -- no row has two of the candidates
-later-apart : (size d : ℕ) → d < 2 ^ 48 → Apart 65 (λ k. hasHandle (later size d k))
-unfolding later hasHandle handleOf
-later-apart size d h i j p q a e =
+candidates-apart : (size d : ℕ) → d < 2 ^ 48 → Apart 65 (λ k. hasHandle (candidate size d k))
+unfolding candidate hasHandle handleOf
+candidates-apart size d h i j p q a e =
     let x = eqb-true (a .key .handle .0) _ e in
     ne-eqb (a .key .handle .0) _ (λ y. next-differ d h i j p q (omega arith))
 
@@ -111,19 +98,19 @@ later-apart size d h i j p q a e =
 record Searched (n size draw : ℕ) (l : List Escrowed) (h : Handle) : Type 0 where
   passed : ℕ
   few : passed ≤ n
-  is : h ≡ later size draw passed
-  used : (k : ℕ) → k < passed → any (hasHandle (later size draw k)) l ≡ true
+  is : h ≡ candidate size draw passed
+  used : (k : ℕ) → k < passed → any (hasHandle (candidate size draw k)) l ≡ true
   stops : passed < n → any (hasHandle h) l ≡ false
 
 used-next : (size draw n : ℕ) (l : List Escrowed) → any (hasHandle (handleOf size draw)) l ≡ true
-    → ((k : ℕ) → k < n → any (hasHandle (later size (next draw) k)) l ≡ true)
-    → (k : ℕ) → k < suc n → any (hasHandle (later size draw k)) l ≡ true
-unfolding later iterate
+    → ((k : ℕ) → k < n → any (hasHandle (candidate size (next draw) k)) l ≡ true)
+    → (k : ℕ) → k < suc n → any (hasHandle (candidate size draw k)) l ≡ true
+unfolding candidate iterate
 used-next size draw n l e u zero h = e
 used-next size draw n l e u (suc k) h = u k (omega arith)
 
 searched : (n size draw : ℕ) (l : List Escrowed) → Searched n size draw l (freeFrom n size draw l)
-unfolding freeFrom later iterate
+unfolding freeFrom candidate iterate
 searched zero size draw l =
     record { passed = 0; few = omega arith; is = refl; used = λ k h. absurd (omega arith); stops = λ h. absurd (omega arith) }
 searched (suc n) size draw l =
@@ -145,7 +132,7 @@ searched (suc n) size draw l =
 
 -- it is in no row, where one of the candidates is in none
 found-free : (n size draw : ℕ) (l : List Escrowed) (h : Handle) → Searched n size draw l h
-    → Unpassed n (λ k. hasHandle (later size draw k)) l → any (hasHandle h) l ≡ false
+    → Unpassed n (λ k. hasHandle (candidate size draw k)) l → any (hasHandle h) l ≡ false
 found-free n size draw l h r u =
     by-cases (ltb (u .index) (r .passed))
     (λ e. clash _ (r .used (u .index) (ltb-true _ _ e)) (u .none))
@@ -156,7 +143,7 @@ found-free n size draw l h r u =
     let a = ltb-false (u .index) (r .passed) e in
     let b = ltb-false (r .passed) n f in
     let q : r .passed ≡ u .index = omega (arith, u .within, r .few) in
-    ap (λ x. any (hasHandle x) l) (r .is ∙ ap (later size draw) q) ∙ u .none))
+    ap (λ x. any (hasHandle x) l) (r .is ∙ ap (candidate size draw) q) ∙ u .none))
 
 -- ---- the free handle
 
@@ -164,8 +151,8 @@ found-free n size draw l h r u =
 pub record FirstFreeIn (size draw : ℕ) (l : List Escrowed) (h : Handle) : Type 0 where
   pub passed : ℕ
   pub few : passed ≤ 64
-  pub is : h ≡ later size draw passed
-  pub used : (k : ℕ) → k < passed → any (hasHandle (later size draw k)) l ≡ true
+  pub is : h ≡ candidate size draw passed
+  pub used : (k : ℕ) → k < passed → any (hasHandle (candidate size draw k)) l ≡ true
   pub free : any (hasHandle h) l ≡ false
 
 module _ (size : ℕ) (d : Draw) (l : List Escrowed) (few : length l ≤ 64) (small : d .0 < 2 ^ 48) where
@@ -173,7 +160,7 @@ module _ (size : ℕ) (d : Draw) (l : List Escrowed) (few : length l ≤ 64) (sm
   unfolding freeHandle
   first-free =
       let r = searched 64 size (d .0) l in
-      let u = unpassed 64 (λ k. hasHandle (later size (d .0) k)) l few (later-apart size (d .0) small) in
+      let u = unpassed 64 (λ k. hasHandle (candidate size (d .0) k)) l few (candidates-apart size (d .0) small) in
       record {
         passed = r .passed;
         few = r .few;
@@ -187,7 +174,7 @@ module _ (size : ℕ) (d : Draw) (l : List Escrowed) (few : length l ≤ 64) (sm
 
   -- it carries the length
   pub handle-size : freeHandle size d l .0 / 2 ^ 48 ≡ size
-  unfolding later handleOf
+  unfolding candidate handleOf
   handle-size =
       let e = ap (λ h. h .0) (first-free .is) in
       let s = next-small (first-free .passed) (d .0) small in

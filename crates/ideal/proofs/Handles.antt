@@ -1,27 +1,29 @@
 -- Handles: none is given twice, and each is the first free one. Assumes nothing.
-use Prim.Native.Nat.{ℕ}
+use Prim.Native.Nat.{ℕ, _^_, _≤_, _<_}
 use mathlib.Core.Path.{_≡_, refl, sym, ap, _∙_}
-use mathlib.Core.Bool.{true, _&&_}
+use mathlib.Core.Bool.{true}
 use mathlib.Core.List.{List, [], _∷_}
 use native.Mathlib.Omega.{arith}
+use lib.ListN.{length}
 use lib.Dec.{eqb, ltb}
 use borrow.Author.Tests.{eq-eqb, ltb-true, ltb-false}
 use Rattle.record.specs.declared.Handle.{Handle}
+use Rattle.record.specs.declared.Draw.{Draw}
 use Rattle.record.specs.Call.{protect}
+use Rattle.record.specs.Read.{whole, read}
 use Rattle.ideal.specs.declared.EscrowRow.{EscrowRow}
 use Rattle.ideal.specs.State.{Escrowed, any}
-use Rattle.ideal.specs.Step.{hasHandle, freeHandle, protected, number, accepted, refusedAnswer}
+use Rattle.ideal.specs.Step.{hasHandle, freeHandle, protected, number, accepted}
 use Rattle.ideal.specs.Tables.{Tables, stateOf, escrowTable, entriesOf, usedEscrow}
-use Rattle.ideal.specs.Soundness.{sizesRight, sound}
-use Rattle.ideal.specs.Box.{Element, callOn, laid, unsound}
-use Rattle.ideal.specs.Layouts.{Sound}
+use Rattle.ideal.specs.Box.{Element, callOn}
 use Rattle.ideal.specs.Accuracy.{Earlier, ProtectsAt, candidate, handleUsed, HandleOnce, HandleIsFirstFree}
-use Rattle.ideal.proofs.Bools.{by-cases, clash, and-left, and-right}
-use Rattle.ideal.proofs.Lists.{any-at, at-any}
-use Rattle.ideal.proofs.Laid.{stepElement, valid-sound, tables-state, call-is}
-use Rattle.ideal.proofs.Free.{later-is, first-free, free-handle}
-use Rattle.ideal.proofs.Runs.{stateBefore, valid-before, accepted-at, accepted-call, call-accepted, number-at}
-use Rattle.ideal.proofs.Escrows.{protect-passed, isHeld, is-held, held-since}
+use Rattle.lists.proofs.Bools.{by-cases, clash}
+use Rattle.lists.proofs.Lists.{any-at, at-any}
+use Rattle.ideal.proofs.Free.{first-free, free-handle}
+use Rattle.ideal.proofs.Accepts.{on-state}
+use Rattle.ideal.proofs.Runs.{stateBefore, valid-before, accepted-at, number-at}
+use Rattle.ideal.proofs.Does.{protect-passed}
+use Rattle.ideal.proofs.Escrows.{isHeld, is-held, held-since}
 
 -- ---- no handle is given twice
 
@@ -63,43 +65,37 @@ unfolding any entriesOf hasHandle
 used-entries h values [] = refl
 used-entries h values (r ∷ rs) = rw (used-entries h values rs)
 
--- where the box accepts, it is sound
-accepts-sound : (t : Tables) (e : Element) → callOn t e .answer .code ≡ 0 → Sound t (e .outputSize)
-unfolding callOn unsound refusedAnswer
-accepts-sound t e h =
-    let n = e .outputSize in
-    by-cases (sizesRight t n && sound t)
-    (λ q. record { sizes = and-left _ _ q; box = and-right (sizesRight t n) _ q })
-    (λ q. let z = rw q at h in absurd (omega arith))
-
-sound-answer : (t : Tables) (e : Element) → Sound t (e .outputSize) → callOn t e .answer ≡ stepElement (stateOf t) e .answer
-unfolding laid
-sound-answer t e h =
-    ap (λ x. callOn x e .answer) (sym (tables-state t (e .outputSize) h))
-    ∙ ap (λ r. r .answer) (call-is (stateOf t) e (valid-sound t (e .outputSize) h))
-
 handle-used : (t : Tables) (h : Handle) → any (hasHandle h) (stateOf t .escrow) ≡ handleUsed t h
 unfolding stateOf handleUsed
 handle-used t h = used-entries h (t .escrowValues) (usedEscrow t)
 
-pub is-first-free : HandleIsFirstFree callOn
+-- an accepted protect gives the free handle of the state that the tables stand for
+pub record Gives (t : Tables) (n : ℕ) (d : Draw) (number : ℕ) : Type 0 where
+  pub few : length (stateOf t .escrow) ≤ 64
+  pub small : d .0 < 2 ^ 48
+  pub is : number ≡ freeHandle n d (stateOf t .escrow) .0
+
+pub gives : (t : Tables) (e : Element) (i o n : ℕ) (d : Draw) (used : ℕ) → read (e .bytes) ≡ whole (protect i o n d) used
+    → callOn t e .answer .code ≡ 0 → Gives t n d (callOn t e .answer .number)
 unfolding accepted number
+gives t e i o n d used reads accepts =
+    let a = on-state t e (protect i o n d) used reads accepts in
+    record {
+      few = a .valid .escrow .few;
+      small = protect-passed (stateOf t) i o n d (a .valid) (a .call .passes) .small;
+      is = ap (λ x. x .number) (a .call .is);
+    }
+
+pub is-first-free : HandleIsFirstFree callOn
 is-first-free t e i o n d used reads accepts =
-    let s = stateOf t in
-    let h = freeHandle n d (s .escrow) in
-    let sound = accepts-sound t e accepts in
-    let valid = valid-sound t (e .outputSize) sound in
-    let q = sound-answer t e sound in
-    let a = call-accepted s e (protect i o n d) used reads (ap (λ x. x .code) (sym q) ∙ accepts) in
-    let c = protect-passed s i o n d valid (a .passes) in
-    let f = first-free n d (s .escrow) (valid .escrow .few) (c .small) in
-    let b = accepted-call s e (protect i o n d) used reads (a .sized) (a .passes) in
-    let m : callOn t e .answer .number ≡ h .0 = ap (λ x. x .number) q ∙ ap (λ x. x .answer .number) b in
-    let g : record { 0 = callOn t e .answer .number } ≡ h = λ x. record { 0 = m x } in
+    let h = freeHandle n d (stateOf t .escrow) in
+    let g = gives t e i o n d used reads accepts in
+    let f = first-free n d (stateOf t .escrow) (g .few) (g .small) in
+    let q : record { 0 = callOn t e .answer .number } ≡ h = let m = g .is in λ x. record { 0 = m x } in
     record {
       passed = f .passed;
       few = f .few;
-      is = g ∙ f .is ∙ later-is n (d .0) (f .passed) (c .small);
-      free = ap (handleUsed t) g ∙ sym (handle-used t h) ∙ f .free;
-      used = λ k l. sym (handle-used t (candidate n (d .0) k)) ∙ rw (← later-is n (d .0) k (c .small)) (f .used k l);
+      is = q ∙ f .is;
+      free = ap (handleUsed t) q ∙ sym (handle-used t h) ∙ f .free;
+      used = λ k l. sym (handle-used t (candidate n (d .0) k)) ∙ f .used k l;
     }

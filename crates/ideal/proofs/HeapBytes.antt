@@ -7,13 +7,14 @@ use native.Mathlib.Omega.{arith}
 use native.Mathlib.Nat.{zero-add}
 use lib.ListN.{length, getD, set, drop-of-length-le}
 use lib.Seq.{sets, sets-eq}
-use Rattle.ideal.specs.State.{part, ownPart}
-use Rattle.ideal.specs.Step.{withHeap, withShared, written}
+use Rattle.ideal.specs.State.{writes, shares, part, ownPart}
+use Rattle.ideal.specs.Step.{apply}
 use Rattle.ideal.specs.Valid.{Valid}
 use Rattle.ideal.specs.Tables.{Tables, flat, boxRecord, tables, stateOf}
 use Rattle.ideal.proofs.Heaps.{Sized}
-use Rattle.ideal.proofs.Memory.{flat-part}
-use Rattle.ideal.proofs.OwnHeap.{flat-sets}
+use Rattle.ideal.proofs.OwnHeap.{flat-sets, sized, own-bytes as own-part, own-written}
+use Rattle.ideal.specs.Refusals.{ownBytes}
+use Rattle.ideal.specs.Accuracy.{withOwnBytes}
 
 -- a store of the whole list
 sets-whole : (v a : List ℕ) → length v ≡ length a → sets a 0 v ≡ v
@@ -56,61 +57,26 @@ replaceShared t m =
     }
 
 module _ (t : Tables) (k : Valid (stateOf t)) (e : tables (stateOf t) ≡ t) where
-  heaps-sized : Sized (stateOf t .heaps)
-  heaps-sized p h = k .sizes p (omega (arith, k .heaps))
-
-  pub heaps-flat : flat (stateOf t .heaps) ≡ t .heaps
-  unfolding tables
-  heaps-flat = ap (λ x. x .heaps) e
-
   -- the place that runs has the 256 bytes from 256 times it
   pub own-bytes : (o n : ℕ) → t .box .running < 16 → o + n ≤ 256
       → ownPart (stateOf t) o n ≡ part (t .heaps) (256 * t .box .running + o) n
-  unfolding ownPart stateOf
-  own-bytes o n h f =
-      sym (flat-part (stateOf t .heaps) (t .box .running) o n heaps-sized (omega (arith, k .heaps)) f)
-      ∙ ap (λ l. part l (256 * t .box .running + o) n) heaps-flat
-
-  pub with-heap : (h : List ℕ)
-      → tables (withHeap (stateOf t) h) ≡ replaceHeaps t (flat (set (stateOf t .heaps) (t .box .running) h))
-  unfolding tables boxRecord withHeap stateOf
-  with-heap h = λ i.
-      record {
-        box = e i .box;
-        heaps = flat (set (stateOf t .heaps) (t .box .running) h);
-        shared = t .shared;
-        logRows = e i .logRows;
-        logValues = e i .logValues;
-        escrowRows = e i .escrowRows;
-        escrowValues = e i .escrowValues;
-      }
+  unfolding stateOf
+  own-bytes o n h f = sym (own-part (stateOf t) k h o n f) ∙ ap (λ x. ownBytes x o n) e
 
   -- bytes written to the running heap, by a heap write or a retrieve
   pub written-bytes : (o : ℕ) (v : List ℕ) → t .box .running < 16 → o + length v ≤ 256
-      → tables (written (stateOf t) o v) ≡ replaceHeaps t (sets (t .heaps) (256 * t .box .running + o) v)
-  unfolding written stateOf
-  written-bytes o v h f =
-      with-heap _
-      ∙ ap (replaceHeaps t)
-      (flat-sets (stateOf t .heaps) (t .box .running) o v heaps-sized (omega (arith, k .heaps)) f
-      ∙ ap (λ l. sets l (256 * t .box .running + o) v) heaps-flat)
+      → tables (apply (stateOf t) (writes (t .box .running) o v)) ≡ replaceHeaps t (sets (t .heaps) (256 * t .box .running + o) v)
+  unfolding stateOf withOwnBytes
+  written-bytes o v h f = own-written (stateOf t) k h o v f ∙ ap (λ x. withOwnBytes x o v) e
 
   -- the running heap replaced
   pub replaced-bytes : (v : List ℕ) → t .box .running < 16 → length v ≡ 256
       → flat (set (stateOf t .heaps) (t .box .running) v) ≡ sets (t .heaps) (256 * t .box .running) v
+  unfolding tables
   replaced-bytes v h n =
-      flat-set (stateOf t .heaps) heaps-sized (t .box .running) v (omega (arith, k .heaps)) n
-      ∙ ap (λ l. sets l (256 * t .box .running) v) heaps-flat
+      flat-set (stateOf t .heaps) (sized (stateOf t) k) (t .box .running) v (omega (arith, k .heaps)) n
+      ∙ ap (λ x. sets (x .heaps) (256 * t .box .running) v) e
 
-  pub with-shared : (m : List ℕ) → tables (withShared (stateOf t) m) ≡ replaceShared t m
-  unfolding tables boxRecord withShared stateOf
-  with-shared m = λ i.
-      record {
-        box = e i .box;
-        heaps = e i .heaps;
-        shared = m;
-        logRows = e i .logRows;
-        logValues = e i .logValues;
-        escrowRows = e i .escrowRows;
-        escrowValues = e i .escrowValues;
-      }
+  pub shared-bytes : (o : ℕ) (v : List ℕ) → tables (apply (stateOf t) (shares o v)) ≡ replaceShared t (sets (t .shared) o v)
+  unfolding apply tables boxRecord stateOf
+  shared-bytes o v = ap (λ x. replaceShared x (sets (t .shared) o v)) e

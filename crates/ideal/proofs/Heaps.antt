@@ -12,7 +12,7 @@ use borrow.Author.Tests.{eqb-true, eq-eqb}
 use Rattle.ideal.specs.State.{cleared}
 use Rattle.ideal.specs.Tables.{flat, chunks}
 use Rattle.ideal.specs.Soundness.{allZero, emptyHeapsZero}
-use Rattle.ideal.proofs.Bools.{by-cases, and-left, and-right, and-true, or-true-left, or-true-right, not-is}
+use Rattle.lists.proofs.Bools.{by-cases, and-left, and-right, and-true, or-true-left, or-true-right, not-is}
 use Rattle.ideal.proofs.Table.{zeros, zeros-zero}
 
 -- heaps of 256 bytes each

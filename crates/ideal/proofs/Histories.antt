@@ -1,36 +1,34 @@
 -- The box record, the memories and the counts are those that the accepted calls since a fresh box say, and so are the
 -- answers of reads and of the report. Assumes nothing.
-use Prim.Native.Nat.{ℕ, zero, suc, _+_, _*_, _≤_, _<_}
+use Prim.Native.Nat.{ℕ, zero, suc, _+_, _*_}
 use mathlib.Core.Path.{_≡_, refl, sym, ap, _∙_}
 use mathlib.Core.List.{List, [], _∷_}
 use native.Mathlib.Omega.{arith}
 use lib.ListN.{length, take}
-use lib.Seq.{sets, getD-set-same}
 use lib.Dec.{eqb, eqb·suc-zero}
 use borrow.Author.Tests.{ltb-false, eqb-true, not-false}
-use Rattle.record.specs.declared.Handle.{Handle}
-use Rattle.record.specs.Call.{Call, create, start, yield, exit, heapWrite, heapRead, sharedWrite, sharedRead, attest, check, protect, retrieve, report}
+use Rattle.record.specs.Call.{Call, heapRead, sharedRead, report}
 use Rattle.record.specs.Read.{Reading, refused, whole, read}
-use Rattle.ideal.specs.State.{State, fresh, heapAt, caller, ownPart}
-use Rattle.ideal.specs.Step.{Answer, found, valueIn, tests, refusal, beyond, withHeap, written, effect, number, shown, refuse, refusedAnswer, accepted, settle, step, onReading, stepOn}
+use Rattle.ideal.specs.State.{State, Move, fresh, heapAt, ownPart, bytesUsed}
+use Rattle.ideal.specs.Step.{tests, refusal, beyond, effect, number, shown, refuse, refusedAnswer, accepted, settle, step, onReading, stepOn}
 use Rattle.ideal.specs.Tables.{Tables, tables, boxRecord, freshTables}
 use Rattle.ideal.specs.Box.{Element, laid, callOn, elementAt, tablesFrom, tablesAfter, tablesBefore, answerAt}
-use Rattle.ideal.specs.Refusals.{ownBytes}
-use Rattle.ideal.specs.History.{Event, wrote, attested, escrowed, eventOf, added, pastFrom, pastOf, ones, pairs, protects, AsThePast, Shows, HistoryHolds, Accepts, Reports}
+use Rattle.ideal.specs.History.{added, pastFrom, pastOf, ones, pairs, protects, AsThePast, Shows, HistoryHolds, Accepts, Reports}
 use Rattle.ideal.proofs.Accepts.{Accepted, accepted-of}
-use Rattle.ideal.proofs.Bools.{by-cases}
+use Rattle.lists.proofs.Bools.{by-cases}
 use Rattle.ideal.proofs.Chain.{failed, passed}
 use Rattle.ideal.specs.Valid.{Valid}
 use Rattle.ideal.proofs.Kept.{busy, own-size}
-use Rattle.ideal.proofs.Laid.{stepElement, valid-fresh, valid-effect, valid-step, fresh-tables, call-is}
+use Rattle.ideal.proofs.Laid.{stepElement, valid-fresh, valid-step, fresh-tables, call-is}
 use Rattle.ideal.proofs.Memory.{part-at, flat-at, taken-at, ones-taken}
+use Rattle.ideal.proofs.OwnHeap.{sized}
 use Rattle.ideal.proofs.Table.{part-length}
-use Rattle.ideal.proofs.OwnHeap.{own-bytes, written-stands}
-use Rattle.ideal.proofs.Past.{StateAsPast, fresh-past, happened, past-kept}
+use Rattle.ideal.proofs.Past.{StateAsPast, fresh-past, past-kept}
+use Rattle.ideal.proofs.ByKind.{does, event-is}
 
 -- ---- the tables of a state are as the past says
 
-tables-past : (s : State) (past : List Event) → Valid s → StateAsPast s past → AsThePast (tables s) past
+tables-past : (s : State) (past : List Move) → Valid s → StateAsPast s past → AsThePast (tables s) past
 unfolding tables boxRecord
 tables-past s past k h =
     record {
@@ -39,53 +37,21 @@ tables-past s past k h =
       taken = λ p b. rw (taken-at (s .identities) p, h .identity p b);
       services = ap (λ n. ones n (tables s .box .taken)) (sym (k .places)) ∙ ones-taken (s .identities);
       heap = λ p x b c.
-          flat-at (s .heaps) p x (λ q g. k .sizes q (omega (arith, k .heaps))) (omega (arith, k .heaps)) c ∙ h .heap p x b c;
+          flat-at (s .heaps) p x (sized s k) (omega (arith, k .heaps)) c ∙ h .heap p x b c;
       shared = h .shared;
-      logRows = h .log .counts .rows;
-      logBytes = h .log .counts .bytes;
-      escrowRows = h .escrow .rows;
-      escrowBytes = h .escrow .bytes;
+      logRows = ap length (h .log);
+      logBytes = ap bytesUsed (h .log);
+      escrowRows = ap length (h .escrow);
+      escrowBytes = ap bytesUsed (h .escrow);
     }
-
--- ---- the event that the tables before and after an accepted call tell
-
-retrieved : (s : State) (i o : ℕ) (a : Handle) → Valid s → refusal s (retrieve i o a) ≡ 0
-    → ownBytes (tables (effect s (retrieve i o a))) o (number s (retrieve i o a)) ≡ valueIn (found s i a)
-unfolding refusal tests beyond effect number written withHeap
-retrieved s i o a k r =
-    let v = valueIn (found s i a) in
-    let g = busy s k (failed 3 _ _ r) in
-    let f = ltb-false 256 (o + length v) (failed 10 _ _ (passed 9 _ _ (passed 8 _ _ (passed 3 _ _ r)))) in
-    own-bytes (effect s (retrieve i o a)) (valid-effect s (retrieve i o a) k r) g o (length v) f ∙ written-stands s k g o v f
-
-event-is : (s : State) (c : Call) → Valid s → refusal s c ≡ 0
-    → eventOf (tables s) (tables (effect s c)) (number s c) c ≡ happened s c
-unfolding eventOf happened refusal tests beyond tables boxRecord
-event-is s (create p i) k r = refl
-event-is s (start p) k r = refl
-event-is s yield k r = refl
-event-is s exit k r = refl
-event-is s (heapWrite p o v) k r = refl
-event-is s (heapRead p o n) k r = refl
-event-is s (sharedWrite o v) k r = refl
-event-is s (sharedRead o n) k r = refl
-event-is s (attest o n) k r =
-    ap (attested (caller s))
-    (own-bytes s k (busy s k (failed 3 _ _ r)) o n (ltb-false 256 (o + n) (failed 10 _ _ (passed 3 _ _ r))))
-event-is s (check i g v) k r = refl
-event-is s (protect i o n d) k r =
-    ap escrowed
-    (own-bytes s k (busy s k (failed 3 _ _ r)) o n (ltb-false 256 (o + n) (failed 10 _ _ (passed 8 _ _ (passed 3 _ _ r)))))
-event-is s (retrieve i o a) k r = ap (wrote (s .running) o) (retrieved s i o a k r)
-event-is s report k r = refl
 
 -- ---- an element on the state
 
-module _ (s : State) (past : List Event) (k : Valid s) (h : StateAsPast s past) where
+module _ (s : State) (past : List Move) (k : Valid s) (h : StateAsPast s past) where
   settled : (n : ℕ) (c : Call) (used : ℕ) → refusal s c ≡ n
       → StateAsPast (settle n s c used .state) (added (tables s) (laid (settle n s c used)) (whole c used) past)
   unfolding settle accepted refuse refusedAnswer laid added
-  settled zero c used e = rw (event-is s c k e) (past-kept s past k h c e)
+  settled zero c used e = rw (event-is s c k e) (unfold effect in past-kept k h (does s c k e))
   settled (suc n) c used e = rw (eqb·suc-zero n) h
 
   on-reading : (r : Reading) → StateAsPast (onReading s r .state) (added (tables s) (laid (onReading s r)) r past)
@@ -107,13 +73,13 @@ module _ (s : State) (past : List Event) (k : Valid s) (h : StateAsPast s past) 
 
 -- ---- the tables that a fresh box comes to
 
-pub record Reached (t : Tables) (past : List Event) : Type 0 where
+pub record Reached (t : Tables) (past : List Move) : Type 0 where
   pub state : State
   pub valid : Valid state
   pub is : t ≡ tables state
   pub says : StateAsPast state past
 
-reached-step : (t : Tables) (e : Element) (past : List Event) → Reached t past
+reached-step : (t : Tables) (e : Element) (past : List Move) → Reached t past
     → Reached (callOn t e .tables) (added t (callOn t e) (read (e .bytes)) past)
 unfolding laid
 reached-step t e past r =
@@ -126,7 +92,7 @@ reached-step t e past r =
       says = step-kept s past (r .valid) (r .says) e;
     })
 
-reached-from : (es : List Element) (t : Tables) (past : List Event) → Reached t past
+reached-from : (es : List Element) (t : Tables) (past : List Move) → Reached t past
     → Reached (tablesFrom callOn t es) (pastFrom callOn t past es)
 unfolding tablesFrom pastFrom
 reached-from [] t past r = r
@@ -156,7 +122,7 @@ at es k c used a =
     ap (λ t. callOn t e .answer) (r .is) ∙ ap (λ x. x .answer) (call-is (r .state) e (r .valid)) in
     record { before = r; call = rw q (accepted-of (r .state) e c used (a .0) (sym (ap (λ x. x .code) q) ∙ a .1)) }
 
-module _ (s : State) (past : List Event) (k : Valid s) (h : StateAsPast s past) where
+module _ (s : State) (past : List Move) (k : Valid s) (h : StateAsPast s past) where
   heap-shows : (p o n used : ℕ) → refusal s (heapRead p o n) ≡ 0 → Shows past p o n (accepted s (heapRead p o n) used .answer)
   unfolding refusal tests beyond accepted number shown ownPart
   heap-shows p o n used r =

@@ -8,7 +8,7 @@ use lib.Seq.{take-all, getD-take}
 use Rattle.ideal.specs.State.{Entry, Escrowed, State, heapAt, part}
 use Rattle.ideal.specs.Tables.{RowsOf, escrowTable, entryOf, entriesOf, boxRecord, tables, stateOf}
 use Rattle.ideal.specs.Valid.{Valid}
-use Rattle.ideal.proofs.Heaps.{Sized}
+use Rattle.ideal.proofs.OwnHeap.{sized}
 use Rattle.ideal.proofs.Memory.{flat-part, flat-at}
 use Rattle.ideal.proofs.Table.{escrow-lawful, entries-length}
 use Rattle.ideal.proofs.Laid.{state-tables}
@@ -26,19 +26,16 @@ module _ {Row Key : Type 0} (t : RowsOf Row Key) (values : List ℕ) where
 -- ---- tables
 
 module _ (s : State) (v : Valid s) where
-  sizes : Sized (s .heaps)
-  sizes p h = v .sizes p (omega (arith, v .heaps))
-
   pub heap-is : (p : ℕ) → p < 16 → part (tables s .heaps) (256 * p) 256 ≡ heapAt s p
   unfolding tables
   heap-is p h =
       let e : 256 * p + 0 ≡ 256 * p = omega arith in
-      rw (← e) (flat-part (s .heaps) p 0 256 sizes (omega (arith, v .heaps)) (omega arith))
+      rw (← e) (flat-part (s .heaps) p 0 256 (sized s v) (omega (arith, v .heaps)) (omega arith))
       ∙ take-all 256 (heapAt s p) (omega (arith, v .sizes p h))
 
   pub byte-is : (p i : ℕ) → p < 16 → i < 256 → getD (tables s .heaps) (256 * p + i) 0 ≡ getD (heapAt s p) i 0
   unfolding tables
-  byte-is p i h k = flat-at (s .heaps) p i sizes (omega (arith, v .heaps)) k
+  byte-is p i h k = flat-at (s .heaps) p i (sized s v) (omega (arith, v .heaps)) k
 
   pub escrowed-is : (d : Escrowed) (k : ℕ) → k < length (s .escrow)
       → entryOf escrowTable (tables s .escrowValues) (getD (tables s .escrowRows) k (escrowTable .blank)) ≡ getD (s .escrow) k d

@@ -1,24 +1,24 @@
--- A fresh state is valid, and each accepted call keeps a state valid. Assumes nothing.
-use Prim.Native.Nat.{ℕ, zero, suc, _+_, _^_, _≤_, _<_}
+-- A fresh state is valid, and each move of an accepted call keeps a state valid. Assumes nothing.
+use Prim.Native.Nat.{ℕ, _+_, _≤_, _<_}
 use mathlib.Core.Path.{_≡_, refl, sym, ap, _∙_}
 use mathlib.Core.Bool.{Bool, true, false, not, _&&_}
 use mathlib.Core.List.{List, [], _∷_, _++_}
 use native.Mathlib.Omega.{arith}
-use lib.ListN.{length, getD, set, length-set, length-replicate, getD-replicate, length-append, length-drop}
-use lib.Seq.{sets, length-sets, getD-set-same, getD-set-other, length-take-le}
-use lib.Dec.{eqb, ltb, leb}
-use borrow.Author.Tests.{ltb-false, eqb-true, eqb-false, leb-false, eq-eqb, ne-eqb, le-leb}
+use lib.ListN.{length, getD, set, length-set, length-replicate, getD-replicate, length-append}
+use lib.Seq.{length-sets, getD-set-same, getD-set-other}
+use lib.Dec.{eqb, leb}
+use borrow.Author.Tests.{ltb-false, eqb-true, eqb-false, eq-eqb, ne-eqb, le-leb}
 use Rattle.fnv.specs.Fnv.{tagOf}
-use Rattle.record.specs.declared.Draw.{Draw}
-use Rattle.record.specs.Call.{Call, create, start, yield, exit, heapWrite, heapRead, sharedWrite, sharedRead, attest, check, protect, retrieve, report}
-use Rattle.record.specs.Read.{Reading, refused, whole, read}
-use Rattle.ideal.specs.State.{Entry, Logged, Escrowed, State, cleared, fresh, identityAt, heapAt, caller, ownPart, any, every, sameBytes, bytesUsed}
-use Rattle.ideal.specs.Step.{isPair, paired, full, withPair, hasHandle, idle, vacant, beyond, tests, refusal, withHeap, withRunning, withIdentity, withShared, withLog, withEscrow, written, protected, effect, accepted, refuse, settle, step, onReading, stepOn}
+use Rattle.record.specs.Call.{Call}
+use Rattle.ideal.specs.State.{Entry, Logged, Escrowed, State, Move, cleared, fresh, heapAt, caller, ownPart, any, every, sameBytes, bytesUsed}
+use Rattle.ideal.specs.Step.{isPair, paired, pairOf, full, withPair, hasHandle, protected, apply}
 use Rattle.ideal.specs.Soundness.{differ, samePair, sameHandle, rightTag}
-use Rattle.ideal.proofs.Bools.{by-cases, and-true, and-other, or-false-left, or-false-right, not-is}
-use Rattle.ideal.proofs.Chain.{failed, passed}
-use Rattle.ideal.proofs.Lists.{bytes-more, every-more, differ-more}
+use Rattle.lists.proofs.Bools.{by-cases, and-true, and-other, or-false-left, or-false-right, not-is}
+use Rattle.lists.proofs.Lists.{every-more}
+use Rattle.ideal.proofs.Lists.{bytes-more, differ-more}
 use Rattle.ideal.proofs.Free.{free-handle, handle-size}
+use Rattle.ideal.proofs.Does.{Does, does-nothing, does-take, does-activate, does-empty, does-write, does-share, does-log, does-escrow}
+pub use Rattle.ideal.proofs.Does.{busy, own-size}
 use Rattle.ideal.specs.Valid.{Fitting, goodLogged, goodEscrowed, Valid}
 
 -- ---- a valid state in parts, since a call alters few of them
@@ -31,15 +31,16 @@ pub record Places (ids : List ℕ) (running : ℕ) (hs : List (List ℕ)) : Type
   pub live : running < 16 → getD ids running 0 ≡ 0 → ⊥
   pub empty : (p : ℕ) → p < 16 → getD ids p 0 ≡ 0 → getD hs p [] ≡ cleared
 
-pub record LogGood (l : List Logged) : Type 0 where
+pub record Good {Key : Type 0} (ok : Entry Key → Bool) (same : Entry Key → Entry Key → Bool) (l : List (Entry Key)) : Type 0 where
   pub fits : Fitting l
-  pub good : every goodLogged l ≡ true
-  pub apart : differ samePair l ≡ true
+  pub good : every ok l ≡ true
+  pub apart : differ same l ≡ true
 
-pub record EscrowGood (l : List Escrowed) : Type 0 where
-  pub fits : Fitting l
-  pub good : every goodEscrowed l ≡ true
-  pub apart : differ sameHandle l ≡ true
+abbrev pub LogGood : List Logged → Type 0
+LogGood l = Good goodLogged samePair l
+
+abbrev pub EscrowGood : List Escrowed → Type 0
+EscrowGood l = Good goodEscrowed sameHandle l
 
 pub valid : (s : State) → Places (s .identities) (s .running) (s .heaps) → length (s .shared) ≡ 1024 → LogGood (s .log)
     → EscrowGood (s .escrow) → Valid s
@@ -169,141 +170,60 @@ unfolding any
 any-same p q [] e = refl
 any-same p q (a ∷ l) e = rw (e a, any-same p q l e)
 
+good-more : {Key : Type 0} {ok : Entry Key → Bool} {same : Entry Key → Entry Key → Bool} {l : List (Entry Key)} (e : Entry Key)
+    (n : ℕ) → Good ok same l → length (e .value) ≡ n → n ≤ 256 → full l n ≡ false → ok e ≡ true → any (λ r. same r e) l ≡ false
+    → Good ok same (l ++ (e ∷ []))
+good-more {ok} {same} {l} e n k s m f g u =
+    record {
+      fits = fitting-more l e n (k .fits) s m f;
+      good = every-more ok l e (k .good) g;
+      apart = differ-more same l e (k .apart) u;
+    }
+
+new-handle : (e : Escrowed) (l : List Escrowed) → any (hasHandle (e .key .handle)) l ≡ false → any (λ r. sameHandle r e) l ≡ false
+unfolding sameHandle hasHandle
+new-handle e l u = any-same _ (hasHandle (e .key .handle)) l (λ r. eqb-comm (e .key .handle .0) (r .key .handle .0)) ∙ u
+
 log-more : (l : List Logged) (i : ℕ) (v : List ℕ) (n : ℕ) → LogGood l → (i ≡ 0 → ⊥) → length v ≡ n → n ≤ 256
-    → not (paired i v l) && full l n ≡ false → LogGood (withPair i v l)
+    → not (paired i v l) && full l n ≡ false → LogGood (withPair (pairOf i v) l)
 unfolding withPair paired goodLogged rightTag samePair isPair
 log-more l i v n k z e m h =
     by-cases (any (isPair i v) l)
     (λ t. rw t k)
     (λ t.
-    let row : Logged = record { key = record { identity = i; tag = tagOf i v }; value = v } in
     let f = and-other (not (any (isPair i v) l)) _ (not-is _ t) h in
-    let u : any (λ r. samePair r row) l ≡ false = any-same _ (isPair i v) l (λ r. rw (eqb-comm i (r .key .identity), same-comm v (r .value))) ∙ t in
-    rw t
-    (record {
-      fits = fitting-more l row n (k .fits) e m f;
-      good = every-more goodLogged l row (k .good) (and-true (not (eqb i 0)) _ (not-is _ (ne-eqb i 0 z)) (eq-eqb (tagOf i v .0) _ refl));
-      apart = differ-more samePair l row (k .apart) u;
-    }))
+    let good = and-true (not (eqb i 0)) _ (not-is _ (ne-eqb i 0 z)) (eq-eqb (tagOf i v .0) _ refl) in
+    let new = any-same _ (isPair i v) l (λ r. rw (eqb-comm i (r .key .identity), same-comm v (r .value))) ∙ t in
+    rw t (good-more (pairOf i v) n k e m f good new))
 
-escrow-more : (l : List Escrowed) (e : Escrowed) (n : ℕ) → EscrowGood l → length (e .value) ≡ n → n ≤ 256 → full l n ≡ false
-    → goodEscrowed e ≡ true → any (hasHandle (e .key .handle)) l ≡ false → EscrowGood (l ++ (e ∷ []))
-unfolding sameHandle hasHandle
-escrow-more l e n k s m f g u =
-    record {
-      fits = fitting-more l e n (k .fits) s m f;
-      good = every-more goodEscrowed l e (k .good) g;
-      apart = differ-more sameHandle l e (k .apart)
-          (any-same _ (hasHandle (e .key .handle)) l (λ r. eqb-comm (e .key .handle .0) (r .key .handle .0)) ∙ u);
-    }
+-- ---- each move
 
--- ---- each call
-
-pub own-size : (s : State) (o n : ℕ) → Valid s → s .running < 16 → o + n ≤ 256 → length (ownPart s o n) ≡ n
-unfolding ownPart
-own-size s o n k r h = let z = k .sizes (s .running) r in length-take-le n _ (simp length-drop (omega arith))
-
-pub busy : (s : State) → Valid s → idle s ≡ false → s .running < 16
-unfolding idle
-busy s k e = let n = eqb-false (s .running) 16 e in let m = k .runs in omega arith
-
-module _ (s : State) (k : Valid s) where
-  valid-create : (p i : ℕ) → refusal s (create p i) ≡ 0 → Valid (withIdentity s p i)
-  unfolding withIdentity refusal tests
-  valid-create p i r =
-      let high = ltb-false 15 p (failed 5 (ltb 15 p) _ r) in
-      let named = eqb-false i 0 (failed 8 (eqb i 0) _ (passed 6 (not (vacant s p)) _ (passed 5 (ltb 15 p) _ r))) in
-      valid _ (created (places-of k) p i (omega arith) named) (k .shared) (log-of k) (escrow-of k)
-
-  valid-start : (p : ℕ) → refusal s (start p) ≡ 0 → Valid (withRunning s p)
-  unfolding withRunning refusal tests vacant
-  valid-start p r =
-      let r₁ = passed 4 (not (idle s)) _ r in
-      let high = ltb-false 15 p (failed 5 (ltb 15 p) _ r₁) in
-      let named = eqb-false (identityAt s p) 0 (failed 6 (vacant s p) _ (passed 5 (ltb 15 p) _ r₁)) in
-      valid _ (now-runs (places-of k) p (omega arith) (λ g. named)) (k .shared) (log-of k) (escrow-of k)
-
-  valid-yield : Valid (withRunning s 16)
-  unfolding withRunning
-  valid-yield = valid _ (now-runs (places-of k) 16 (omega arith) (λ g. absurd (omega arith))) (k .shared) (log-of k) (escrow-of k)
-
-  valid-exit : idle s ≡ false → Valid (effect s exit)
-  unfolding effect withRunning withIdentity withHeap
-  valid-exit r = valid _ (exited (places-of k) (busy s k r)) (k .shared) (log-of k) (escrow-of k)
-
-  valid-written : (o : ℕ) (v : List ℕ) → idle s ≡ false → Valid (written s o v)
-  unfolding written withHeap
-  valid-written o v r =
-      let run = busy s k r in
-      let n = length-sets (heapAt s (s .running)) o v ∙ k .sizes (s .running) run in
-      valid _ (filled (places-of k) run _ n) (k .shared) (log-of k) (escrow-of k)
-
-  valid-shared : (o : ℕ) (v : List ℕ) → Valid (withShared s (sets (s .shared) o v))
-  unfolding withShared
-  valid-shared o v = valid _ (places-of k) (length-sets (s .shared) o v ∙ k .shared) (log-of k) (escrow-of k)
-
-  valid-attest : (o n : ℕ) → refusal s (attest o n) ≡ 0 → Valid (effect s (attest o n))
-  unfolding effect withLog refusal tests beyond
-  valid-attest o n r =
-      let r₁ = passed 3 (idle s) _ r in
-      let r₂ = passed 10 (beyond 256 o n) _ r₁ in
-      let run = busy s k (failed 3 (idle s) _ r) in
-      let fit = ltb-false 256 (o + n) (failed 10 (beyond 256 o n) _ r₁) in
-      let room = failed 12 (not (paired (caller s) (ownPart s o n) (s .log)) && full (s .log) n) _ r₂ in
-      let more = log-more (s .log) (caller s) (ownPart s o n) n (log-of k) (k .live run) (own-size s o n k run fit) (omega arith) room in
-      valid _ (places-of k) (k .shared) more (escrow-of k)
-
-  valid-protect : (i o n : ℕ) (d : Draw) → refusal s (protect i o n d) ≡ 0 → Valid (effect s (protect i o n d))
-  unfolding effect withEscrow refusal tests beyond protected goodEscrowed
-  valid-protect i o n d r =
-      let r₁ = passed 3 (idle s) _ r in
-      let r₂ = passed 8 (eqb i 0) _ r₁ in
-      let r₃ = passed 10 (beyond 256 o n) _ r₂ in
-      let r₄ = passed 11 (leb (2 ^ 48) (d .0)) _ r₃ in
-      let run = busy s k (failed 3 (idle s) _ r) in
-      let fit = ltb-false 256 (o + n) (failed 10 (beyond 256 o n) _ r₂) in
-      let draw = leb-false (2 ^ 48) (d .0) (failed 11 (leb (2 ^ 48) (d .0)) _ r₃) in
-      let room = failed 13 (full (s .escrow) n) _ r₄ in
-      let size = own-size s o n k run fit in
-      let few = k .escrow .few in
-      let good : goodEscrowed (protected s i o n d) ≡ true =
-      and-true (not (eqb (caller s) 0)) _ (not-is _ (ne-eqb _ _ (k .live run)))
-      (and-true (not (eqb i 0)) _ (not-is _ (failed 8 (eqb i 0) _ r₁))
-      (eq-eqb _ _ (handle-size n d (s .escrow) few draw ∙ sym size))) in
-      let more = escrow-more (s .escrow) (protected s i o n d) n (escrow-of k) size (omega arith) room good (free-handle n d (s .escrow) few draw) in
-      valid _ (places-of k) (k .shared) (log-of k) more
-
-pub valid-effect : (s : State) (c : Call) → Valid s → refusal s c ≡ 0 → Valid (effect s c)
-unfolding effect refusal tests
-valid-effect s (create p i) k r = valid-create s k p i r
-valid-effect s (start p) k r = valid-start s k p r
-valid-effect s yield k r = valid-yield s k
-valid-effect s exit k r = valid-exit s k (failed 3 (idle s) _ r)
-valid-effect s (heapWrite p o v) k r = valid-written s k o v (failed 3 (idle s) _ r)
-valid-effect s (heapRead p o n) k r = k
-valid-effect s (sharedWrite o v) k r = valid-shared s k o v
-valid-effect s (sharedRead o n) k r = k
-valid-effect s (attest o n) k r = valid-attest s k o n r
-valid-effect s (check i g v) k r = k
-valid-effect s (protect i o n d) k r = valid-protect s k i o n d r
-valid-effect s (retrieve i o h) k r = valid-written s k o _ (failed 3 (idle s) _ r)
-valid-effect s report k r = k
-
--- ---- a record's bytes, read and carried out
-
-valid-settle : (n : ℕ) (s : State) (c : Call) (used : ℕ) → Valid s → refusal s c ≡ n → Valid (settle n s c used .state)
-unfolding settle accepted refuse
-valid-settle zero s c used k r = valid-effect s c k r
-valid-settle (suc n) s c used k r = k
-
-valid-reading : (s : State) (r : Reading) → Valid s → Valid (onReading s r .state)
-unfolding onReading step refuse
-valid-reading s (refused code number) k = k
-valid-reading s (whole c used) k = valid-settle (refusal s c) s c used k refl
-
-pub valid-on : (s : State) (bytes : List ℕ) → Valid s → Valid (stepOn s bytes .state)
-unfolding stepOn
-valid-on s bytes k = valid-reading s (read bytes) k
+pub valid-apply : {s : State} {c : Call} {m : Move} → Valid s → Does s c m → Valid (apply s m)
+unfolding apply protected goodEscrowed
+valid-apply k does-nothing = k
+valid-apply k (does-take h z n) = valid _ (created (places-of k) _ _ h n) (k .shared) (log-of k) (escrow-of k)
+valid-apply k (does-activate h n) = valid _ (now-runs (places-of k) _ h n) (k .shared) (log-of k) (escrow-of k)
+valid-apply k (does-empty h) = valid _ (exited (places-of k) h) (k .shared) (log-of k) (escrow-of k)
+valid-apply {s} k (does-write {o = o} {v = v} w h f) =
+    let n = length-sets (heapAt s (s .running)) o v ∙ k .sizes (s .running) h in
+    valid _ (filled (places-of k) h _ n) (k .shared) (log-of k) (escrow-of k)
+valid-apply {s} k (does-share {o = o} {v = v} f) =
+    valid _ (places-of k) (length-sets (s .shared) o v ∙ k .shared) (log-of k) (escrow-of k)
+valid-apply {s} k (does-log {o = o} {n = n} a) =
+    let f = a .fits in
+    let size = own-size s o n k (a .runs) f in
+    let more = log-more (s .log) (caller s) (ownPart s o n) n (log-of k) (k .live (a .runs)) size (omega arith) (a .room) in
+    valid _ (places-of k) (k .shared) more (escrow-of k)
+valid-apply {s} k (does-escrow {i = i} {o = o} {n = n} {d = d} a) =
+    let f = a .fits in
+    let size = own-size s o n k (a .runs) f in
+    let few = k .escrow .few in
+    let good : goodEscrowed (protected s i o n d) ≡ true =
+    and-true (not (eqb (caller s) 0)) _ (not-is _ (ne-eqb _ _ (k .live (a .runs))))
+    (and-true (not (eqb i 0)) _ (not-is _ (ne-eqb i 0 (a .named)))
+    (eq-eqb _ _ (handle-size n d (s .escrow) few (a .small) ∙ sym size))) in
+    let new = new-handle (protected s i o n d) (s .escrow) (free-handle n d (s .escrow) few (a .small)) in
+    valid _ (places-of k) (k .shared) (log-of k) (good-more _ n (escrow-of k) size (omega arith) (a .room) good new)
 
 -- ---- a fresh box
 

@@ -1,6 +1,6 @@
 -- The laws by which proofs go between a state and its tables: the tables of a valid state are sound and stand for it, and
 -- sound tables stand for a valid state and are its tables. Assumes nothing.
-use Prim.Native.Nat.{ℕ, _≤_, _<_}
+use Prim.Native.Nat.{ℕ, zero, suc, _≤_, _<_}
 use mathlib.Core.Path.{_≡_, refl, sym, ap, _∙_, subst}
 use mathlib.Core.Bool.{true, false, not, _&&_, cond}
 use mathlib.Core.List.{List}
@@ -8,28 +8,32 @@ use native.Mathlib.Omega.{arith}
 use lib.ListN.{getD, take, replicate}
 use lib.Dec.{eqb, ltb}
 use borrow.Author.Tests.{eqb-true, eqb-false, ltb-true, ne-eqb, lt-ltb, not-true}
+use Rattle.record.specs.Call.{Call}
+use Rattle.record.specs.Read.{Reading, refused, whole, read}
 use Rattle.ideal.specs.declared.BoxRecord.{BoxRecord}
 use Rattle.ideal.specs.declared.Used.{Used}
 use Rattle.ideal.specs.State.{State, cleared, fresh, every, bytesUsed}
-use Rattle.ideal.specs.Step.{Outcome, refuse, stepOn}
+use Rattle.ideal.specs.Step.{Outcome, refusal, refuse, accepted, settle, step, onReading, stepOn}
 use Rattle.ideal.specs.Tables.{Tables, RowsOf, logTable, escrowTable, padded, valuesOf, rowsFrom, rowsOf, entriesOf, takenMap, flat, chunks, boxRecord, tables, usedLog, usedEscrow, stateOf, freshTables}
 use Rattle.ideal.specs.Soundness.{sizesRight, runningTaken, short, hasIdentity, hasIdentities, rightTag, differ, samePair, sameHandle, sound}
 use Rattle.ideal.specs.Box.{Element, laid, callOn, unsound}
 use Rattle.ideal.specs.Layouts.{Sound, LayoutsAgree, StatesAgree, StaysSound, FreshBox}
-use Rattle.ideal.proofs.Bools.{by-cases, and-left, and-right, and-true, or-true-left, or-true-right, not-is}
+use Rattle.lists.proofs.Bools.{by-cases, and-left, and-right, and-true, or-true-left, or-true-right, not-is}
 use Rattle.ideal.specs.Valid.{Fitting, Valid}
-use Rattle.ideal.proofs.Kept.{Places, LogGood, EscrowGood, valid, valid-on}
+use Rattle.ideal.proofs.Kept.{Places, LogGood, EscrowGood, valid}
 use Rattle.ideal.proofs.Table.{Lawful, Stands, held, used-rows, entries-back, laid-out, rows-of-entries, entry-count, byte-count, rows-back, values-back, log-lawful, escrow-lawful}
 use Rattle.ideal.proofs.Heaps.{flat-length, chunks-flat, flat-chunks, chunks-length, chunks-sized, flat-replicate, cleared-is, empty-zero, zero-empty}
+use Rattle.ideal.proofs.OwnHeap.{sized}
 use Rattle.ideal.proofs.Facts.{short-tests, log-tests, escrow-tests, Facts, facts, output-size, facts-sound}
-pub use Rattle.ideal.proofs.Kept.{valid-fresh, valid-effect}
+pub use Rattle.ideal.proofs.Kept.{valid-fresh}
+pub use Rattle.ideal.proofs.ByKind.{valid-effect}
 
 -- ---- the tables of a valid state
 
 module _ (s : State) (k : Valid s) where
   heaps-back : chunks 16 (flat (s .heaps)) ≡ s .heaps
   heaps-back =
-      ap (λ n. chunks n (flat (s .heaps))) (sym (k .heaps)) ∙ chunks-flat (s .heaps) (λ p h. k .sizes p (omega (arith, k .heaps)))
+      ap (λ n. chunks n (flat (s .heaps))) (sym (k .heaps)) ∙ chunks-flat (s .heaps) (sized s k)
 
   pub state-tables : stateOf (tables s) ≡ s
   unfolding stateOf tables boxRecord
@@ -65,7 +69,7 @@ module _ (s : State) (k : Valid s) where
       let escrow-good = sym (escrow-tests (s .escrow)) ∙ k .escrow-good in
       record {
         places = k .places;
-        heaps = flat-length (s .heaps) (λ p h. k .sizes p (omega (arith, k .heaps))) ∙ rw (k .heaps);
+        heaps = flat-length (s .heaps) (sized s k) ∙ rw (k .heaps);
         shared = k .shared;
         runs = running-taken;
         map = refl;
@@ -199,6 +203,20 @@ fresh-tables = λ i.
     }
 
 -- ---- one element on the state
+
+valid-settle : (n : ℕ) (s : State) (c : Call) (used : ℕ) → Valid s → refusal s c ≡ n → Valid (settle n s c used .state)
+unfolding settle accepted refuse
+valid-settle zero s c used k r = valid-effect s c k r
+valid-settle (suc n) s c used k r = k
+
+valid-reading : (s : State) (r : Reading) → Valid s → Valid (onReading s r .state)
+unfolding onReading step refuse
+valid-reading s (refused code number) k = k
+valid-reading s (whole c used) k = valid-settle (refusal s c) s c used k refl
+
+pub valid-on : (s : State) (bytes : List ℕ) → Valid s → Valid (stepOn s bytes .state)
+unfolding stepOn
+valid-on s bytes k = valid-reading s (read bytes) k
 
 -- 15 where the output buffer isn't of its size
 unfoldable pub stepElement : State → Element → Outcome

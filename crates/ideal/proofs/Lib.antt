@@ -1,4 +1,3 @@
-pub mod Bools
 pub mod Lists
 pub mod Unique
 pub mod Chain
@@ -11,7 +10,11 @@ pub mod Memory
 pub mod OwnHeap
 pub mod HeapBytes
 pub mod CallNumbers
+pub mod Does
 pub mod Kept
+pub mod TwoEscrows
+pub mod TwoStates
+pub mod ByKind
 pub mod Facts
 pub mod Laid
 pub mod SoundStates
@@ -29,10 +32,9 @@ pub mod Checks
 pub mod Retrieves
 pub mod Handles
 pub mod Accurate
-pub mod TwoEscrows
-pub mod TwoStates
 pub mod Hosted
 pub mod TwoRuns
+pub mod TwoSteps
 pub mod Secret
 pub mod Demanded
 pub mod Differing

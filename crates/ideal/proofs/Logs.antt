@@ -1,52 +1,42 @@
 -- The log holds what earlier accepted attests logged, and nothing else. Assumes nothing.
-use Prim.Native.Nat.{ℕ, _+_, _≤_, _<_}
+use Prim.Native.Nat.{ℕ}
 use mathlib.Core.Path.{_≡_, refl, sym, _∙_}
 use mathlib.Core.Logic.{_↔_, _⊎_, inl, inr}
 use mathlib.Core.Bool.{true, not, _||_}
 use mathlib.Core.List.{List}
 use lib.Dec.{eqb}
-use borrow.Author.Tests.{eqb-true, eq-eqb, ltb-false}
+use borrow.Author.Tests.{eqb-true, eq-eqb}
 use Rattle.fnv.specs.declared.Tag.{Tag}
 use Rattle.fnv.specs.Fnv.{tagOf}
-use Rattle.record.specs.Call.{Call, create, start, yield, exit, heapWrite, heapRead, sharedWrite, sharedRead, attest, check, protect, retrieve, report}
-use Rattle.ideal.specs.State.{Logged, State, fresh, caller, ownPart, any, every}
-use Rattle.ideal.specs.Step.{isPair, isLogged, paired, logged, withPair, tests, refusal, idle, beyond, effect, number, withHeap, withRunning, withIdentity, withShared, withLog, withEscrow, written}
+use Rattle.record.specs.Call.{Call, attest}
+use Rattle.ideal.specs.State.{Logged, State, Move, fresh, caller, ownPart, any, every}
+use Rattle.ideal.specs.Step.{isPair, isLogged, paired, logged, pairOf, withPair, move, apply, effect, number}
 use Rattle.ideal.specs.Soundness.{rightTag}
 use Rattle.ideal.specs.Box.{Element, callOn, elementAt}
 use Rattle.ideal.specs.Accuracy.{Earlier, LogsAt}
-use Rattle.ideal.proofs.Bools.{by-cases, and-left, and-right, and-true, or-nil}
-use Rattle.ideal.proofs.Chain.{failed, passed}
-use Rattle.ideal.proofs.Lists.{same-bytes, same-bytes-refl, any-append, any-one, every-at, any-at, at-any}
+use Rattle.lists.proofs.Bools.{by-cases, and-left, and-right, and-true, or-nil}
+use Rattle.lists.proofs.Lists.{same-bytes, same-bytes-refl, any-append, any-one, every-at, any-at, at-any}
 use Rattle.ideal.specs.Valid.{Valid, goodLogged}
-use Rattle.ideal.proofs.Kept.{busy}
+use Rattle.ideal.proofs.Does.{AttestPassed, attest-passed, Does, does-nothing, does-take, does-activate, does-empty, does-write, does-share, does-log, does-escrow}
 use Rattle.ideal.proofs.Runs.{stateBefore, valid-before, caller-before, own-before, accepted-at, accepts-at, Accepted, number-at}
 use Rattle.ideal.proofs.Since.{Fed, AddsAt, since}
 
--- the entry of a pair
-abbrev attested : ℕ → List ℕ → Logged
-attested i v = record { key = record { identity = i; tag = tagOf i v }; value = v }
+data Attests (s : State) : Call → Type 0 where
+  attests : {o n : ℕ} → AttestPassed s o n → Attests s (attest o n)
 
-data Attests : Call → Type 0 where
-  attests : (o n : ℕ) → Attests (attest o n)
+entry : (s : State) (c : Call) → Attests s c → Logged
+entry s c (attests {o = o} {n = n} a) = pairOf (caller s) (ownPart s o n)
 
-entry : State → (c : Call) → Attests c → Logged
-entry s c (attests o n) = attested (caller s) (ownPart s o n)
-
-others : (s : State) (c : Call) → (effect s c .log ≡ s .log) ⊎ Attests c
-unfolding effect withHeap withRunning withIdentity withShared withEscrow written
-others s (create p i) = inl refl
-others s (start p) = inl refl
-others s yield = inl refl
-others s exit = inl refl
-others s (heapWrite p o v) = inl refl
-others s (heapRead p o n) = inl refl
-others s (sharedWrite o v) = inl refl
-others s (sharedRead o n) = inl refl
-others s (attest o n) = inr (attests o n)
-others s (check i g v) = inl refl
-others s (protect i o n d) = inl refl
-others s (retrieve i o h) = inl refl
-others s report = inl refl
+others : {s : State} {c : Call} {m : Move} → Does s c m → (apply s m .log ≡ s .log) ⊎ Attests s c
+unfolding apply
+others does-nothing = inl refl
+others (does-take h z n) = inl refl
+others (does-activate h n) = inl refl
+others (does-empty h) = inl refl
+others (does-write w h f) = inl refl
+others (does-share f) = inl refl
+others (does-log a) = inr (attests a)
+others (does-escrow a) = inl refl
 
 module _ (i : ℕ) (g : Tag) (v : List ℕ) where
   record IsLogged (r : Logged) : Type 0 where
@@ -82,45 +72,40 @@ module _ (i : ℕ) (g : Tag) (v : List ℕ) where
   unfolding paired
   pair-logged l good t h =
       let p = any-at (isPair i v) l h in
-      let d = attested i v in
+      let d = pairOf i v in
       at-any (isLogged i g v) l d (p .index) (p .within)
       (logged-is _ (pair-is _ (every-at goodLogged l d (p .index) good (p .within)) (p .passes d) t))
 
   -- attesting a pair already logged adds no row, and there is an earlier one
   again : (j : ℕ) (w : List ℕ) (l : List Logged) → every goodLogged l ≡ true → paired j w l ≡ true
-      → any (isLogged i g v) l ≡ any (isLogged i g v) l || isLogged i g v (attested j w)
+      → any (isLogged i g v) l ≡ any (isLogged i g v) l || isLogged i g v (pairOf j w)
   again j w l good h =
-      by-cases (isLogged i g v (attested j w))
-      (λ e. let q = is-logged (attested j w) e in
+      by-cases (isLogged i g v (pairOf j w))
+      (λ e. let q = is-logged (pairOf j w) e in
       let z = pair-logged l good (rw (← q .identity, ← q .value) (q .tag)) (rw (← q .identity, ← q .value) h) in
       rw z)
       (λ e. rw e (sym (or-nil _)))
 
-  more : (s : State) (c : Call) (kind : Attests c) → Valid s
-      → any (isLogged i g v) (effect s c .log) ≡ any (isLogged i g v) (s .log) || isLogged i g v (entry s c kind)
-  unfolding entry effect withLog withPair
-  more s c (attests o n) valid =
+  more : (s : State) (c : Call) (a : Attests s c) → Valid s
+      → any (isLogged i g v) (effect s c .log) ≡ any (isLogged i g v) (s .log) || isLogged i g v (entry s c a)
+  unfolding entry effect move apply withPair
+  more s c (attests {o = o} {n = n} a) valid =
       by-cases (paired (caller s) (ownPart s o n) (s .log))
       (λ e. rw e (again (caller s) (ownPart s o n) (s .log) (valid .log-good) e))
       (λ e. rw (e, any-append (isLogged i g v) (s .log), any-one (isLogged i g v)))
-
-pub attest-passed : (s : State) (o n : ℕ) → Valid s → refusal s (attest o n) ≡ 0 → (s .running < 16) × (o + n ≤ 256)
-unfolding refusal tests beyond
-attest-passed s o n valid h = (busy s valid (failed 3 (idle s) _ h), ltb-false 256 (o + n) (failed 10 _ _ (passed 3 (idle s) _ h)))
 
 module _ (es : List Element) (i : ℕ) (g : Tag) (v : List ℕ) where
   fed : Fed Attests entry (isLogged i g v) (λ s. s .log)
   unfolding any fresh
   fed = record { empty = refl; others = others; more = more i g v }
 
-  logs : (k : ℕ) → AddsAt Attests entry (isLogged i g v) es k → LogsAt callOn es i v g k
+  logs-at : (k : ℕ) → AddsAt Attests entry (isLogged i g v) es k → LogsAt callOn es i v g k
   unfolding entry number
-  logs k x = at (x .call) (x .kind) (x .accepted) (x .passes)
+  logs-at k x = at (x .call) (x .adds) (x .accepted) (x .passes)
     where
-      at : (c : Call) (kind : Attests c) → Accepted (stateBefore es k) (elementAt es k) c (x .used)
-          → isLogged i g v (entry (stateBefore es k) c kind) ≡ true → LogsAt callOn es i v g k
-      at c (attests o n) a p =
-          let w = attest-passed (stateBefore es k) o n (valid-before es k) (a .passes) in
+      at : (c : Call) (a : Attests (stateBefore es k) c) → Accepted (stateBefore es k) (elementAt es k) c (x .used)
+          → isLogged i g v (entry (stateBefore es k) c a) ≡ true → LogsAt callOn es i v g k
+      at c (attests {o = o} {n = n} w) a p =
           let q = is-logged i g v _ p in
           record {
             offset = o;
@@ -129,13 +114,13 @@ module _ (es : List Element) (i : ℕ) (g : Tag) (v : List ℕ) where
             reads = a .reads;
             accepts = accepts-at es k (attest o n) (x .used) a;
             by = caller-before es k ∙ q .identity;
-            bytes = own-before es k o n (w .0) (w .1) ∙ q .value;
+            bytes = own-before es k o n (w .runs) (w .fits) ∙ q .value;
             gets = number-at es k (attest o n) (x .used) a ∙ q .tag;
           }
 
-  adds : (k : ℕ) → LogsAt callOn es i v g k → AddsAt Attests entry (isLogged i g v) es k
+  adds-at : (k : ℕ) → LogsAt callOn es i v g k → AddsAt Attests entry (isLogged i g v) es k
   unfolding entry number
-  adds k l =
+  adds-at k l =
       let o = l .offset in
       let n = l .size in
       let a = accepted-at es k (attest o n) (l .used) (l .reads) (l .accepts) in
@@ -143,17 +128,17 @@ module _ (es : List Element) (i : ℕ) (g : Tag) (v : List ℕ) where
       record {
         call = attest o n;
         used = l .used;
-        kind = attests o n;
+        adds = attests w;
         accepted = a;
         passes = logged-is i g v _
             (record {
               identity = sym (caller-before es k) ∙ l .by;
               tag = sym (number-at es k (attest o n) (l .used) a) ∙ l .gets;
-              value = sym (own-before es k o n (w .0) (w .1)) ∙ l .bytes;
+              value = sym (own-before es k o n (w .runs) (w .fits)) ∙ l .bytes;
             });
       }
 
   -- the log has the triple where an earlier accepted attest logged it
   pub logged-since : (k : ℕ) → (logged i g v (stateBefore es k .log) ≡ true) ↔ Earlier (LogsAt callOn es i v g) k
   unfolding logged
-  logged-since = since Attests entry (isLogged i g v) (λ s. s .log) fed es (LogsAt callOn es i v g) (λ k. (logs k, adds k))
+  logged-since = since Attests entry (isLogged i g v) (λ s. s .log) fed es (LogsAt callOn es i v g) (λ k. (logs-at k, adds-at k))

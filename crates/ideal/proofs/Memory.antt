@@ -16,7 +16,7 @@ use Rattle.ideal.specs.State.{part}
 use Rattle.ideal.specs.Step.{services}
 use Rattle.ideal.specs.Tables.{takenMap, flat}
 use Rattle.ideal.specs.History.{within, ones}
-use Rattle.ideal.proofs.Bools.{by-cases}
+use Rattle.lists.proofs.Bools.{by-cases}
 use Rattle.ideal.proofs.Heaps.{Sized}
 
 -- ---- stores

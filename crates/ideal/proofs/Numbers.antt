@@ -13,7 +13,7 @@ use Rattle.ideal.specs.Soundness.{sizesRight, sound}
 use Rattle.ideal.specs.Box.{Element, laid, unsound, callOn, outputAfter}
 use Rattle.ideal.specs.Layouts.{Sound}
 use Rattle.ideal.specs.Refusals.{oneOf, readerConditions, callConditions, onCall, conditions, unread, was-read, Refused, EachNumber, RefusalsAlterNothing}
-use Rattle.ideal.proofs.Bools.{by-cases, and-left, and-right}
+use Rattle.lists.proofs.Bools.{by-cases, and-left, and-right}
 use Rattle.ideal.proofs.Laid.{valid-sound, state-tables, tables-state}
 use Rattle.ideal.proofs.Conditions.{firstOf, first-of, first-among}
 use Rattle.ideal.proofs.ReaderNumbers.{seen, read-seen}

@@ -6,8 +6,8 @@ use native.Mathlib.Omega.{arith}
 use native.Mathlib.Nat.{zero-add, suc-add, add-suc}
 use lib.ListN.{length, getD, set, length-set}
 use lib.Seq.{sets, set-append-left, getD-set-same}
-use Rattle.ideal.specs.State.{State, heapAt, ownPart}
-use Rattle.ideal.specs.Step.{withHeap, written}
+use Rattle.ideal.specs.State.{State, writes, heapAt, ownPart}
+use Rattle.ideal.specs.Step.{apply}
 use Rattle.ideal.specs.Tables.{tables, boxRecord, flat}
 use Rattle.ideal.specs.Refusals.{ownBytes}
 use Rattle.ideal.specs.Accuracy.{withOwnBytes}
@@ -46,20 +46,20 @@ flat-sets (m ∷ hs) (suc p) o v z h f =
     let q : 256 * suc p + o ≡ length m + (256 * p + o) = omega arith in
     rw (q, sets-append-right m (flat hs) (256 * p + o) v, ← flat-sets hs p o v (λ i b. z (suc i) (omega arith)) (omega arith) f)
 
-module _ (s : State) (valid : Valid s) (runs : s .running < 16) where
-  sizes : Sized (s .heaps)
-  sizes p h = valid .sizes p (omega (arith, valid .heaps))
+pub sized : (s : State) → Valid s → Sized (s .heaps)
+sized s k p h = k .sizes p (omega (arith, k .heaps))
 
+module _ (s : State) (valid : Valid s) (runs : s .running < 16) where
   pub own-bytes : (o n : ℕ) → o + n ≤ 256 → ownBytes (tables s) o n ≡ ownPart s o n
   unfolding tables boxRecord ownPart
-  own-bytes o n f = flat-part (s .heaps) (s .running) o n sizes (omega (arith, valid .heaps)) f
+  own-bytes o n f = flat-part (s .heaps) (s .running) o n (sized s valid) (omega (arith, valid .heaps)) f
 
-  pub own-written : (o : ℕ) (v : List ℕ) → o + length v ≤ 256 → tables (written s o v) ≡ withOwnBytes (tables s) o v
-  unfolding tables boxRecord written withHeap withOwnBytes
-  own-written o v f = rw (flat-sets (s .heaps) (s .running) o v sizes (omega (arith, valid .heaps)) f)
+  pub own-written : (o : ℕ) (v : List ℕ) → o + length v ≤ 256 → tables (apply s (writes (s .running) o v)) ≡ withOwnBytes (tables s) o v
+  unfolding tables boxRecord apply withOwnBytes
+  own-written o v f = rw (flat-sets (s .heaps) (s .running) o v (sized s valid) (omega (arith, valid .heaps)) f)
 
-  pub written-stands : (o : ℕ) (v : List ℕ) → o + length v ≤ 256 → ownPart (written s o v) o (length v) ≡ v
-  unfolding written withHeap ownPart
+  pub written-stands : (o : ℕ) (v : List ℕ) → o + length v ≤ 256 → ownPart (apply s (writes (s .running) o v)) o (length v) ≡ v
+  unfolding apply ownPart
   written-stands o v f =
       rw (getD-set-same (s .heaps) (s .running) (sets (heapAt s (s .running)) o v) [] (omega (arith, valid .heaps)))
       (part-sets (heapAt s (s .running)) o v (omega (arith, valid .sizes (s .running) runs)))

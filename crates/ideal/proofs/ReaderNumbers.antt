@@ -14,7 +14,7 @@ use Rattle.record.specs.Layout.{Kind, stands, kinds, among, kindOf, mapIn, mapO
 use Rattle.record.specs.Read.{Reading, refused, whole, cut, unknown, wrongMap, fromLittle, field, contents, bytesField, fields, readFields, readKind, afterMap, read}
 use Rattle.ideal.specs.State.{part, every}
 use Rattle.ideal.specs.Refusals.{width, fixedBytes, cutField, isMap, readerConditions}
-use Rattle.ideal.proofs.Bools.{by-cases, and-left, and-right}
+use Rattle.lists.proofs.Bools.{by-cases, and-left, and-right}
 use Rattle.ideal.proofs.Conditions.{firstOf}
 
 -- the code and the number of a refusal; those given where the record is whole

@@ -12,18 +12,19 @@ use borrow.Author.Tests.{eqb-true, eqb-false, eq-eqb, ne-eqb, ltb-true, ltb-fals
 use Rattle.record.specs.declared.Handle.{Handle}
 use Rattle.record.specs.Call.{Call, protect, retrieve}
 use Rattle.record.specs.Read.{whole, read}
-use Rattle.ideal.specs.State.{Escrowed, State, caller, ownPart}
-use Rattle.ideal.specs.Step.{found, absent, valueIn, idle, beyond, tests, first, refusal, effect, number, written, withHeap}
+use Rattle.ideal.specs.State.{Escrowed, State, caller, ownPart, writes}
+use Rattle.ideal.specs.Step.{found, absent, valueIn, idle, beyond, tests, first, refusal, move, apply, effect, number}
 use Rattle.ideal.specs.Tables.{tables}
 use Rattle.ideal.specs.Box.{Element, callOn, elementAt, tablesBefore, answerAt}
 use Rattle.ideal.specs.Refusals.{ownBytes}
 use Rattle.ideal.specs.Accuracy.{ProtectsAt, Sized, Runs, ProtectedBefore, HandsOut, RetrieveAt, withOwnBytes}
-use Rattle.ideal.proofs.Bools.{by-cases}
+use Rattle.lists.proofs.Bools.{by-cases}
 use Rattle.ideal.specs.Valid.{Valid}
 use Rattle.ideal.proofs.Kept.{busy}
 use Rattle.ideal.proofs.OwnHeap.{own-written, written-stands}
 use Rattle.ideal.proofs.Runs.{stateBefore, valid-before, tables-before, running-before, caller-before, own-before, sized-at, code-at, accepted-at, accepts-at, Accepted, number-at, state-after}
-use Rattle.ideal.proofs.Escrows.{protect-passed, Finds, found-since}
+use Rattle.ideal.proofs.Does.{protect-passed}
+use Rattle.ideal.proofs.Escrows.{Finds, found-since}
 use Rattle.ideal.proofs.Checks.{same-cond}
 
 -- who protects has an identity, and so has whom it is for
@@ -76,8 +77,8 @@ module _ (s : State) (i o : ℕ) (h : Handle) where
     unfolding refusal tests first absent valueIn beyond
     found-refusal r = rw (r .runs, ne-eqb i 0 (r .named), f .is, f .value)
 
-    retrieve-effect : effect s (retrieve i o h) ≡ written s o v
-    unfolding effect valueIn
+    retrieve-effect : effect s (retrieve i o h) ≡ apply s (writes (s .running) o v)
+    unfolding effect move valueIn
     retrieve-effect = rw (f .is, f .value)
 
     retrieve-number : number s (retrieve i o h) ≡ length v
@@ -103,10 +104,10 @@ module _ (es : List Element) (k i o : ℕ) (h : Handle) (used : ℕ)
 
   hands : (v : List ℕ) → Accepted s (elementAt es k) c used → Ready s i o h → Finds s i h v → o + length v ≤ 256
       → HandsOut callOn es o v k
-  unfolding written withHeap
+  unfolding apply
   hands v a r f fits =
       let w = busy s (valid-before es k) (r .runs) in
-      let q : stateBefore es (suc k) ≡ written s o v = state-after es k c used a ∙ retrieve-effect s i o h v f in
+      let q : stateBefore es (suc k) ≡ apply s (writes (s .running) o v) = state-after es k c used a ∙ retrieve-effect s i o h v f in
       let w′ : stateBefore es (suc k) .running < 16 = rw q w in
       record {
         accepts = (accepts-at es k c used a, number-at es k c used a ∙ retrieve-number s i o h v f);

@@ -14,7 +14,7 @@ use Rattle.ideal.specs.Tables.{tables, boxRecord}
 use Rattle.ideal.specs.Box.{Element, laid, callOn, elementAt, tablesFrom, tablesAfter, tablesBefore, answerAt}
 use Rattle.ideal.specs.Refusals.{callerIn, ownBytes}
 use Rattle.ideal.specs.Accuracy.{Sized}
-use Rattle.ideal.proofs.Bools.{by-cases}
+use Rattle.lists.proofs.Bools.{by-cases}
 use Rattle.ideal.specs.Valid.{Valid}
 use Rattle.ideal.proofs.Laid.{stepElement, valid-fresh, valid-step, fresh-tables, call-is}
 use Rattle.ideal.proofs.OwnHeap.{own-bytes}

@@ -1,36 +1,30 @@
 -- Demand 3: two runs of the box differ only in what the group holds.
-use Prim.Native.Nat.{ℕ, zero, suc, _+_, _≤_, _<_}
+use Prim.Native.Nat.{ℕ, _+_, _≤_, _<_}
 use mathlib.Core.Path.{_≡_, refl, sym, ap, _∙_, subst, subst₂}
-use mathlib.Core.Bool.{Bool, true, false, _&&_, cond}
+use mathlib.Core.Bool.{Bool, true, false, _&&_}
 use mathlib.Core.List.{List, []}
 use native.Mathlib.Omega.{arith}
 use lib.ListN.{length, getD, List·getD-eq-default}
 use lib.Dec.{eqb, ltb}
 use borrow.Author.Tests.{ltb-true, ltb-false}
-use Rattle.record.specs.declared.Draw.{Draw}
-use Rattle.record.specs.Call.{Call, attest, protect}
-use Rattle.record.specs.Read.{Reading, refused, whole, read}
+use Rattle.record.specs.Call.{Call}
+use Rattle.record.specs.Read.{whole, read}
 use Rattle.ideal.specs.State.{EscrowKey, Escrowed, State, fresh, caller, part, ownPart}
-use Rattle.ideal.specs.Step.{Outcome, refusal, tests, idle, beyond, protected, refusedAnswer, refuse, accepted, settle, step, onReading, stepOn}
+use Rattle.ideal.specs.Step.{refusal, protected, accepted, settle, step, onReading, stepOn}
 use Rattle.ideal.specs.Tables.{Tables, escrowTable, entryOf, rowsFrom, rowsOf, boxRecord, tables, freshTables}
 use Rattle.ideal.specs.Box.{Element, laid, callOn}
 use Rattle.ideal.specs.Refusals.{ownBytes}
-use Rattle.ideal.specs.Secrecy.{inside, groupRuns, groupToGroup, AlikeAt, same, other-bytes, EqualAt, AgreeOutside, PremiseAt, Secrecy}
-use Rattle.ideal.proofs.Bools.{by-cases, and-false, and-other, clash}
-use Rattle.ideal.proofs.Chain.{failed, passed}
+use Rattle.ideal.specs.Secrecy.{inside, groupRuns, groupToGroup, AlikeAt, same, other-bytes, AgreeOutside, PremiseAt, noneExempt, Secrecy}
+use Rattle.lists.proofs.Bools.{by-cases, and-false, and-other, clash}
+use Rattle.ideal.proofs.Does.{protect-passed}
 use Rattle.ideal.specs.Valid.{Valid}
 use Rattle.ideal.proofs.Laid.{stepElement, valid-fresh, valid-step, fresh-tables, call-is}
 use Rattle.ideal.proofs.Hosted.{heap-is, escrowed-is}
 use Rattle.ideal.proofs.OwnHeap.{own-bytes}
 use Rattle.ideal.proofs.TwoEscrows.{SameEscrow, no-entries, entry, same-count, same-bytes-used, same-at}
-use Rattle.ideal.proofs.TwoStates.{Secrets, SameBut, same-state, AlikeCalls, same-call, other-call, NoneTold, same-refusal, same-effect, same-number, same-shown}
+use Rattle.ideal.proofs.TwoStates.{Secrets, SameBut, same-state, other-call, NoneTold}
+use Rattle.ideal.proofs.TwoSteps.{Both, both-element, both-calls}
 use Rattle.ideal.proofs.TwoRuns.{Preserved, Stepped, secrecy-of}
-
--- a branch of each side, by the same test
-pub cond-both : {A : Type 0} (R : A → A → Type 0) (b : Bool) {x y v w : A} → (b ≡ true → R x y) → (b ≡ false → R v w)
-    → R (cond b x v) (cond b y w)
-cond-both R true f g = f refl
-cond-both R false f g = g refl
 
 -- ---- what the group holds
 
@@ -46,48 +40,6 @@ held G =
       value = λ k. inside G (k .source) && inside G (k .recipient);
       none-empty = λ _. inside-zero G;
     }
-
--- the premise at a call, on the states
-pub record Disclosed (G : ℕ → Bool) (s t : State) (c : Call) : Type 0 where
-  pub attests : inside G (caller s) ≡ true → (o n : ℕ) → c ≡ attest o n → o + n ≤ 256 → ownPart s o n ≡ ownPart t o n
-  pub protects : inside G (caller s) ≡ true → (i o n : ℕ) (d : Draw) → c ≡ protect i o n d → inside G i ≡ false
-      → refusal s c ≡ 0 → ownPart s o n ≡ ownPart t o n
-
-pub none-told : (G : ℕ → Bool) {s t : State} {c : Call} → Disclosed G s t c → NoneTold (held G) s t c
-unfolding protected
-none-told G p =
-    record {
-      attests = p .attests;
-      protects = λ g i o n d q e r. p .protects g i o n d q (and-other _ _ g e) r;
-      retrieves = λ g i o h q r. and-false (inside G i) _ g;
-    }
-
--- ---- one step on both states
-
--- where the first run stood at s
-record Both (G : ℕ → Bool) (s : State) (o p : Outcome) : Type 0 where
-  state : SameBut (held G) (o .state) (p .state)
-  answer : EqualAt G (tables s) (o .answer) (p .answer)
-
-module _ (G : ℕ → Bool) {s t : State} (k : SameBut (held G) s t) where
-  both-refuse : (code number used : ℕ) → Both G s (refuse s code number used) (refuse t code number used)
-  unfolding refuse refusedAnswer
-  both-refuse code number used =
-      record { state = k; answer = record { code = refl; number = refl; used = refl; shown = λ _. refl } }
-
-  both-settle : (n : ℕ) {c d : Call} (u : ℕ) → AlikeCalls (held G) s c d → Disclosed G s t c → refusal s c ≡ n
-      → Both G s (settle n s c u) (settle n t d u)
-  unfolding settle accepted groupRuns tables boxRecord
-  both-settle zero u a p r =
-      record {
-        state = same-effect (held G) k a (none-told G p) r;
-        answer = record { code = refl; number = same-number (held G) k a (none-told G p) r; used = refl; shown = same-shown (held G) k a };
-      }
-  both-settle (suc n) u a p r = both-refuse (suc n) 0 u
-
-  both-step : {c d : Call} (u : ℕ) → AlikeCalls (held G) s c d → Disclosed G s t c → Both G s (step s c u) (step t d u)
-  unfolding step
-  both-step {c} u a p = rw (← same-refusal (held G) k a (none-told G p)) (both-settle (refusal s c) u a p refl)
 
 -- ---- the premise, on the states
 
@@ -105,10 +57,6 @@ pub accepted-code : (s : State) (e : Element) (c : Call) (u : ℕ) → Valid s �
 unfolding laid stepElement stepOn onReading step settle accepted
 accepted-code s e c u v x y r = ap (λ z. z .answer .code) (call-is s e v) ∙ rw (x, y, r)
 
-pub protect-fits : (s : State) (i o n : ℕ) (d : Draw) → refusal s (protect i o n d) ≡ 0 → o + n ≤ 256
-unfolding refusal tests beyond
-protect-fits s i o n d r = ltb-false 256 (o + n) (failed 10 _ _ (passed 8 (eqb i 0) _ (passed 3 (idle s) _ r)))
-
 module _ (G : ℕ → Bool) {s t : State} (k : SameBut (held G) s t) (v : Valid s) (w : Valid t) (e : Element)
     (p : PremiseAt callOn G (tables s) (tables t) e) where
   same-own : (o n : ℕ) → inside G (caller s) ≡ true → o + n ≤ 256 → ownBytes (tables s) o n ≡ ownBytes (tables t) o n
@@ -118,35 +66,23 @@ module _ (G : ℕ → Bool) {s t : State} (k : SameBut (held G) s t) (v : Valid 
       let a = k .running in
       sym (own-bytes s v r o n h) ∙ q ∙ own-bytes t w (omega arith) o n h
 
-  disclosed : (c : Call) (u : ℕ) → eqb (e .outputSize) 1024 ≡ true → read (e .bytes) ≡ whole c u → Disclosed G s t c
-  unfolding groupRuns tables boxRecord
-  disclosed c u x y =
+  told : eqb (e .outputSize) 1024 ≡ true → (c : Call) (u : ℕ) → read (e .bytes) ≡ whole c u → NoneTold (held G) s t c
+  unfolding groupRuns tables boxRecord protected
+  told x c u y =
       record {
         attests = λ g o n q h. same-own o n g h (p .attests g o n u (y ∙ ap (λ z. whole z u) q) h);
         protects = λ g i o n d q out r.
-            same-own o n g (protect-fits s i o n d (rw q at r))
-            (p .protects g i o n d u (y ∙ ap (λ z. whole z u) q) out (accepted-code s e c u v x y r));
+            same-own o n g (protect-passed s i o n d v (rw q at r) .fits)
+            (p .protects g i o n d u (y ∙ ap (λ z. whole z u) q) (and-other _ _ g out) (accepted-code s e c u v x y r));
+        retrieves = λ g i o h q r. and-false (inside G i) _ g;
       }
 
-  both-reading : eqb (e .outputSize) 1024 ≡ true → (r : Reading) → read (e .bytes) ≡ r → Both G s (onReading s r) (onReading t r)
-  unfolding onReading
-  both-reading x (refused code number) y = both-refuse G k code number 0
-  both-reading x (whole c u) y = both-step G k u (same-call c) (disclosed c u x y)
-
-  both-same : Both G s (stepElement s e) (stepElement t e)
-  unfolding stepElement stepOn
-  both-same =
-      cond-both (λ o p. Both G s o p) (eqb (e .outputSize) 1024) (λ x. both-reading x (read (e .bytes)) refl)
-      (λ _. both-refuse G k 15 0 0)
-
-  both-element : (f : Element) → AlikeAt G (tables s) e f → Both G s (stepElement s e) (stepElement t f)
-  unfolding stepElement stepOn onReading groupRuns tables boxRecord
-  both-element f (same q) = subst (λ x. Both G s (stepElement s e) (stepElement t x)) q both-same
-  both-element f (other-bytes g h) =
-      rw (← h .outputSize, h .reads₁, h .reads₂)
-      (cond-both (λ o p. Both G s o p) (eqb (e .outputSize) 1024)
-      (λ x. both-step G k (h .used) (other-call _ _ _ _ g (h .count)) (disclosed _ (h .used) x (h .reads₁)))
-      (λ _. both-refuse G k 15 0 0))
+  both-alike : (f : Element) → AlikeAt G (tables s) e f → Both (held G) s (stepElement s e) (stepElement t f)
+  unfolding groupRuns tables boxRecord
+  both-alike f (same q) =
+      subst (λ x. Both (held G) s (stepElement s e) (stepElement t x)) q (both-element (held G) k e told)
+  both-alike f (other-bytes g h) =
+      both-calls (held G) k e told f (h .used) (other-call _ _ _ _ g (h .count)) (h .outputSize) (h .reads₁) (h .reads₂)
 
 -- ---- the tables of both states
 
@@ -204,10 +140,10 @@ record Related (G : ℕ → Bool) (x y : Tables) : Type 0 where
   same : SameBut (held G) first second
 
 related-step : (G : ℕ → Bool) (s t : State) (e f : Element) → Valid s → Valid t → SameBut (held G) s t → AlikeAt G (tables s) e f
-    → PremiseAt callOn G (tables s) (tables t) e → Stepped callOn G (Related G) (tables s) (tables t) e f
-unfolding laid
+    → PremiseAt callOn G (tables s) (tables t) e → Stepped noneExempt callOn G (Related G) (tables s) (tables t) e f
+unfolding laid groupRuns tables boxRecord
 related-step G s t e f v w k a p =
-    let b = both-element G k v w e p f a in
+    let b = both-alike G k v w e p f a in
     record {
       answer = rw (call-is s e v, call-is t f w) (b .answer);
       after =
@@ -222,12 +158,12 @@ related-step G s t e f v w k a p =
           };
     }
 
-preserved : (G : ℕ → Bool) → Preserved callOn G (Related G)
+preserved : (G : ℕ → Bool) → Preserved noneExempt callOn G (Related G)
 preserved G =
     record {
       agrees = λ r. subst₂ (λ x y. AgreeOutside G x y) (r .is₁) (r .is₂) (agree-outside G (r .same) (r .valid₁) (r .valid₂));
       both = λ {x} {y} {e} {f} r.
-          subst₂ (λ x y. AlikeAt G x e f → PremiseAt callOn G x y e → Stepped callOn G (Related G) x y e f) (r .is₁) (r .is₂)
+          subst₂ (λ x y. AlikeAt G x e f → PremiseAt callOn G x y e → Stepped noneExempt callOn G (Related G) x y e f) (r .is₁) (r .is₂)
           (related-step G (r .first) (r .second) e f (r .valid₁) (r .valid₂) (r .same));
     }
 
@@ -245,4 +181,4 @@ related-fresh G =
 
 -- demand 3
 pub secrecy : Secrecy callOn
-secrecy = secrecy-of callOn Related preserved related-fresh
+secrecy G = secrecy-of noneExempt callOn G (preserved G) (related-fresh G)

@@ -1,8 +1,7 @@
 -- From the laws of the layout.
 use mathlib.Core.Path.{sym}
-use Rattle.ideal.specs.SoundBoxes.{SoundBoxes, LaidOut}
+use Rattle.ideal.specs.SoundBoxes.{SoundBoxes}
 use Rattle.ideal.specs.Tables.{stateOf}
-use Rattle.ideal.specs.Layouts.{Sound}
 use Rattle.ideal.proofs.Facts.{output-size}
 use Rattle.ideal.proofs.Laid.{valid-sound, tables-state, sound-tables}
 

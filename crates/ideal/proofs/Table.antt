@@ -14,7 +14,7 @@ use Rattle.ideal.specs.declared.Used.{Used}
 use Rattle.ideal.specs.State.{Entry, part, every, bytesUsed}
 use Rattle.ideal.specs.Tables.{RowsOf, logTable, escrowTable, padded, valuesOf, usedBy, rowsFrom, rowsOf, entriesOf}
 use Rattle.ideal.specs.Soundness.{allZero, chained}
-use Rattle.ideal.proofs.Bools.{and-left, and-right, and-true}
+use Rattle.lists.proofs.Bools.{and-left, and-right, and-true}
 
 -- ---- padding
 

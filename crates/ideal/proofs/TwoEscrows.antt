@@ -11,7 +11,7 @@ use Rattle.record.specs.declared.Handle.{Handle}
 use Rattle.record.specs.declared.Draw.{Draw}
 use Rattle.ideal.specs.State.{EscrowKey, Escrowed, any, find, bytesUsed}
 use Rattle.ideal.specs.Step.{full, isEscrowed, absent, valueIn, hasHandle, handleOf, next, freeFrom, freeHandle}
-use Rattle.ideal.proofs.Bools.{by-cases, and-left, and-right}
+use Rattle.lists.proofs.Bools.{by-cases, and-left, and-right}
 
 pub record SameEntry (secret : EscrowKey → Bool) (r q : Escrowed) : Type 0 where
   pub key : r .key ≡ q .key

@@ -9,8 +9,8 @@ use native.Mathlib.Omega.{arith}
 use borrow.Author.Tests.{not-true}
 use Rattle.ideal.specs.State.{any, find}
 use Rattle.ideal.specs.Soundness.{differ}
-use Rattle.ideal.proofs.Bools.{by-cases, clash, and-left, and-right, and-true, or-split, or-true-left, or-true-right}
-use Rattle.ideal.proofs.Lists.{any-at, at-any}
+use Rattle.lists.proofs.Bools.{by-cases, clash, and-left, and-right, and-true, or-split, or-true-left, or-true-right}
+use Rattle.lists.proofs.Lists.{any-at, at-any}
 
 module _ {A : Type 0} (p q : A → Bool) where
   pub found-any : (l : List A) (a : A) → find p l ≡ some a → q a ≡ true → any (λ b. p b && q b) l ≡ true

@@ -1,6 +1,6 @@
 -- The whole box on the host's tables, and runs of it from a fresh box.
 use Prim.Native.Nat.{ℕ}
-use mathlib.Core.Bool.{Bool, _&&_, cond}
+use mathlib.Core.Bool.{_&&_, cond}
 use mathlib.Core.List.{List, [], _∷_, _++_}
 use lib.ListN.{length, getD, take, drop}
 use Rattle.ideal.specs.Step.{Answer, Outcome, refusedAnswer, stepOn}

@@ -1,128 +1,121 @@
 -- What the box holds, said from its history alone: the accepted calls since a fresh box.
 use Prim.Native.Nat.{ℕ, zero, suc, _+_, _*_, _-_, _<_, _/_, _%_}
 use mathlib.Core.Path.{_≡_}
-use mathlib.Core.Bool.{Bool, true, false, _&&_, cond, not}
+use mathlib.Core.Bool.{Bool, _&&_, cond, not}
 use mathlib.Core.List.{List, [], _∷_, _++_}
 use lib.ListN.{length, getD, take}
 use lib.Dec.{eqb, ltb, leb}
 use Rattle.record.specs.Layout.{stands}
 use Rattle.record.specs.Call.{Call, create, start, yield, exit, heapWrite, heapRead, sharedWrite, sharedRead, attest, check, protect, retrieve, report}
 use Rattle.record.specs.Read.{Reading, refused, whole, read}
-use Rattle.ideal.specs.State.{Entry, any, sameBytes, bytesUsed}
+use Rattle.ideal.specs.State.{Logged, Escrowed, Move, nothing, takes, activates, empties, writes, shares, logs, escrows, any, sameBytes, bytesUsed}
 use Rattle.ideal.specs.Step.{Answer, services}
 use Rattle.ideal.specs.Tables.{Tables, freshTables}
 use Rattle.ideal.specs.Box.{Element, Result, tablesAfter, elementAt, tablesBefore, answerAt}
 use Rattle.ideal.specs.Refusals.{callerIn, ownBytes}
 
--- an accepted call, as far as it matters later; the memory of a write is a place's heap, or 16 for shared memory
-pub data Event : Type 0 where
-  created : (place identity : ℕ) → Event
-  started : (place : ℕ) → Event
-  yielded : Event
-  exited : (place : ℕ) → Event
-  wrote : (memory offset : ℕ) (bytes : List ℕ) → Event
-  attested : (identity : ℕ) (value : List ℕ) → Event
-  escrowed : (value : List ℕ) → Event
-  looked : Event
+-- the move of an accepted call, from the tables before and after it and its number; a retrieve writes what then stands in
+-- the heap
+unfoldable pub eventOf : Tables → Tables → ℕ → Call → Move
+eventOf t u n (create p i) = takes p i
+eventOf t u n (start p) = activates p
+eventOf t u n yield = activates 16
+eventOf t u n exit = empties (t .box .running)
+eventOf t u n (heapWrite p o v) = writes p o v
+eventOf t u n (heapRead p o m) = nothing
+eventOf t u n (sharedWrite o v) = shares o v
+eventOf t u n (sharedRead o m) = nothing
+eventOf t u n (attest o m) =
+    logs (record { key = record { identity = callerIn t; tag = record { 0 = n } }; value = ownBytes t o m })
+eventOf t u n (check i g v) = nothing
+eventOf t u n (protect i o m d) =
+    escrows (record { key = record { source = callerIn t; recipient = i; handle = record { 0 = n } }; value = ownBytes t o m })
+eventOf t u n (retrieve i o h) = writes (t .box .running) o (ownBytes u o n)
+eventOf t u n report = nothing
 
--- the event of an accepted call, from the tables before and after it; a retrieve writes what then stands in the heap
-unfoldable pub eventOf : Tables → Tables → ℕ → Call → Event
-eventOf t u n (create p i) = created p i
-eventOf t u n (start p) = started p
-eventOf t u n yield = yielded
-eventOf t u n exit = exited (t .box .running)
-eventOf t u n (heapWrite p o v) = wrote p o v
-eventOf t u n (heapRead p o m) = looked
-eventOf t u n (sharedWrite o v) = wrote 16 o v
-eventOf t u n (sharedRead o m) = looked
-eventOf t u n (attest o m) = attested (callerIn t) (ownBytes t o m)
-eventOf t u n (check i g v) = looked
-eventOf t u n (protect i o m d) = escrowed (ownBytes t o m)
-eventOf t u n (retrieve i o h) = wrote (t .box .running) o (ownBytes u o n)
-eventOf t u n report = looked
-
-unfoldable pub added : Tables → Result → Reading → List Event → List Event
+unfoldable pub added : Tables → Result → Reading → List Move → List Move
 added t r (refused code number) past = past
 added t r (whole c used) past =
     cond (eqb (r .answer .code) 0) (eventOf t (r .tables) (r .answer .number) c ∷ past) past
 
 module _ (box : Tables → Element → Result) where
-  unfoldable pub pastFrom : Tables → List Event → List Element → List Event
+  unfoldable pub pastFrom : Tables → List Move → List Element → List Move
   pastFrom t past [] = past
   pastFrom t past (e ∷ es) = pastFrom (box t e .tables) (added t (box t e) (read (e .bytes)) past) es
 
   -- the accepted calls of a list on a fresh box, newest first
-  unfoldable pub pastOf : List Element → List Event
+  unfoldable pub pastOf : List Element → List Move
   pastOf es = pastFrom freshTables [] es
 
 -- ---- what the past says
 
 -- a place runs from its accepted start until the next accepted yield or exit
-unfoldable pub runs : List Event → ℕ
+unfoldable pub runs : List Move → ℕ
 runs [] = 16
-runs (created p i ∷ past) = runs past
-runs (started p ∷ past) = p
-runs (yielded ∷ past) = 16
-runs (exited p ∷ past) = 16
-runs (wrote m o v ∷ past) = runs past
-runs (attested i v ∷ past) = runs past
-runs (escrowed v ∷ past) = runs past
-runs (looked ∷ past) = runs past
+runs (nothing ∷ past) = runs past
+runs (takes p i ∷ past) = runs past
+runs (activates p ∷ past) = p
+runs (empties p ∷ past) = 16
+runs (writes p o v ∷ past) = runs past
+runs (shares o v ∷ past) = runs past
+runs (logs e ∷ past) = runs past
+runs (escrows e ∷ past) = runs past
 
 -- place p has the identity of its last accepted create until its accepted exit
-unfoldable pub holder : List Event → ℕ → ℕ
+unfoldable pub holder : List Move → ℕ → ℕ
 holder [] p = 0
-holder (created q i ∷ past) p = cond (eqb p q) i (holder past p)
-holder (started q ∷ past) p = holder past p
-holder (yielded ∷ past) p = holder past p
-holder (exited q ∷ past) p = cond (eqb p q) 0 (holder past p)
-holder (wrote m o v ∷ past) p = holder past p
-holder (attested i v ∷ past) p = holder past p
-holder (escrowed v ∷ past) p = holder past p
-holder (looked ∷ past) p = holder past p
+holder (nothing ∷ past) p = holder past p
+holder (takes q i ∷ past) p = cond (eqb p q) i (holder past p)
+holder (activates q ∷ past) p = holder past p
+holder (empties q ∷ past) p = cond (eqb p q) 0 (holder past p)
+holder (writes q o v ∷ past) p = holder past p
+holder (shares o v ∷ past) p = holder past p
+holder (logs e ∷ past) p = holder past p
+holder (escrows e ∷ past) p = holder past p
 
 unfoldable pub within : ℕ → List ℕ → ℕ → Bool
 within offset bytes x = leb offset x && ltb x (offset + length bytes)
 
--- a byte of a memory: that of the last accepted write there since the fresh box, the create or the exit, else 0
-unfoldable pub byteAt : List Event → ℕ → ℕ → ℕ
+-- a byte of a memory, a place's heap or shared memory (16): that of the last accepted write there since the fresh box, the
+-- create or the exit, else 0
+unfoldable pub byteAt : List Move → ℕ → ℕ → ℕ
 byteAt [] m x = 0
-byteAt (created p i ∷ past) m x = cond (eqb m p) 0 (byteAt past m x)
-byteAt (started p ∷ past) m x = byteAt past m x
-byteAt (yielded ∷ past) m x = byteAt past m x
-byteAt (exited p ∷ past) m x = cond (eqb m p) 0 (byteAt past m x)
-byteAt (wrote n o v ∷ past) m x = cond (eqb m n && within o v x) (getD v (x - o) 0) (byteAt past m x)
-byteAt (attested i v ∷ past) m x = byteAt past m x
-byteAt (escrowed v ∷ past) m x = byteAt past m x
-byteAt (looked ∷ past) m x = byteAt past m x
+byteAt (nothing ∷ past) m x = byteAt past m x
+byteAt (takes p i ∷ past) m x = cond (eqb m p) 0 (byteAt past m x)
+byteAt (activates p ∷ past) m x = byteAt past m x
+byteAt (empties p ∷ past) m x = cond (eqb m p) 0 (byteAt past m x)
+byteAt (writes p o v ∷ past) m x = cond (eqb m p && within o v x) (getD v (x - o) 0) (byteAt past m x)
+byteAt (shares o v ∷ past) m x = cond (eqb m 16 && within o v x) (getD v (x - o) 0) (byteAt past m x)
+byteAt (logs e ∷ past) m x = byteAt past m x
+byteAt (escrows e ∷ past) m x = byteAt past m x
 
-unfoldable pub isAttested : ℕ → List ℕ → Entry ℕ → Bool
-isAttested i v e = eqb (e .key) i && sameBytes (e .value) v
+unfoldable pub isAttested : ℕ → List ℕ → Logged → Bool
+isAttested i v e = eqb (e .key .identity) i && sameBytes (e .value) v
 
--- the distinct pairs that were attested
-unfoldable pub pairs : List Event → List (Entry ℕ)
+-- the distinct pairs that were attested, oldest first
+unfoldable pub pairs : List Move → List Logged
 pairs [] = []
-pairs (created p i ∷ past) = pairs past
-pairs (started p ∷ past) = pairs past
-pairs (yielded ∷ past) = pairs past
-pairs (exited p ∷ past) = pairs past
-pairs (wrote m o v ∷ past) = pairs past
-pairs (attested i v ∷ past) =
-    cond (any (isAttested i v) (pairs past)) (pairs past) (record { key = i; value = v } ∷ pairs past)
-pairs (escrowed v ∷ past) = pairs past
-pairs (looked ∷ past) = pairs past
+pairs (nothing ∷ past) = pairs past
+pairs (takes p i ∷ past) = pairs past
+pairs (activates p ∷ past) = pairs past
+pairs (empties p ∷ past) = pairs past
+pairs (writes p o v ∷ past) = pairs past
+pairs (shares o v ∷ past) = pairs past
+pairs (logs e ∷ past) =
+    cond (any (isAttested (e .key .identity) (e .value)) (pairs past)) (pairs past) (pairs past ++ (e ∷ []))
+pairs (escrows e ∷ past) = pairs past
 
--- the values that were protected
-unfoldable pub protects : List Event → List (Entry (Unit {0}))
+-- the values that were protected, oldest first
+unfoldable pub protects : List Move → List Escrowed
 protects [] = []
-protects (created p i ∷ past) = protects past
-protects (started p ∷ past) = protects past
-protects (yielded ∷ past) = protects past
-protects (exited p ∷ past) = protects past
-protects (wrote m o v ∷ past) = protects past
-protects (attested i v ∷ past) = protects past
-protects (escrowed v ∷ past) = record { key = tt; value = v } ∷ protects past
-protects (looked ∷ past) = protects past
+protects (nothing ∷ past) = protects past
+protects (takes p i ∷ past) = protects past
+protects (activates p ∷ past) = protects past
+protects (empties p ∷ past) = protects past
+protects (writes p o v ∷ past) = protects past
+protects (shares o v ∷ past) = protects past
+protects (logs e ∷ past) = protects past
+protects (escrows e ∷ past) = protects past ++ (e ∷ [])
 
 -- how many of a map's lowest bits stand
 unfoldable pub ones : ℕ → ℕ → ℕ
@@ -131,7 +124,7 @@ ones (suc n) map = map % 2 + ones n (map / 2)
 
 -- ---- the box record, the memories and the counts are those that the past says
 
-pub record AsThePast (t : Tables) (past : List Event) : Type 0 where
+pub record AsThePast (t : Tables) (past : List Move) : Type 0 where
   pub running : t .box .running ≡ runs past
   pub identity : (p : ℕ) → p < 16 → getD (t .box .identities) p 0 ≡ holder past p
   pub taken : (p : ℕ) → p < 16 → stands (t .box .taken) p ≡ not (eqb (holder past p) 0)
@@ -144,7 +137,7 @@ pub record AsThePast (t : Tables) (past : List Event) : Type 0 where
   pub escrowBytes : t .box .escrow .bytes ≡ bytesUsed (protects past)
 
 -- what an accepted read shows of a memory
-pub record Shows (past : List Event) (memory offset size : ℕ) (a : Answer) : Type 0 where
+pub record Shows (past : List Move) (memory offset size : ℕ) (a : Answer) : Type 0 where
   pub number : a .number ≡ size
   pub count : length (a .shown) ≡ size
   pub byte : (x : ℕ) → x < size → getD (a .shown) x 0 ≡ byteAt past memory (offset + x)

@@ -1,7 +1,7 @@
 -- What is proved of the layout and of soundness. The proofs are in proofs/Laid.antt.
 use Prim.Native.Nat.{ℕ}
 use mathlib.Core.Path.{_≡_}
-use mathlib.Core.Bool.{Bool, true}
+use mathlib.Core.Bool.{true}
 use mathlib.Core.List.{List}
 use Rattle.ideal.specs.State.{fresh}
 use Rattle.ideal.specs.Step.{stepOn}

@@ -2,11 +2,11 @@
 use Prim.Native.Nat.{ℕ, _+_, _*_, _≤_, _<_}
 use mathlib.Core.Path.{_≡_}
 use mathlib.Core.Bool.{Bool, true, false, not, _&&_}
-use mathlib.Core.List.{List, []}
+use mathlib.Core.List.{List}
 use lib.ListN.{length, getD}
 use lib.Dec.{eqb}
 use Rattle.record.specs.declared.Draw.{Draw}
-use Rattle.record.specs.Call.{Call, heapWrite, attest, protect}
+use Rattle.record.specs.Call.{heapWrite, attest, protect}
 use Rattle.record.specs.Read.{whole, read}
 use Rattle.ideal.specs.declared.EscrowRow.{EscrowRow}
 use Rattle.ideal.specs.State.{part}
@@ -44,12 +44,12 @@ pub data AlikeAt (G : ℕ → Bool) (t : Tables) (e f : Element) : Type 0 where
   same : e ≡ f → AlikeAt G t e f
   other-bytes : groupRuns G t ≡ true → HeapWrites e f → AlikeAt G t e f
 
--- two answers at one index, where the first run's tables just before are t
-pub record EqualAt (G : ℕ → Bool) (t : Tables) (a b : Answer) : Type 0 where
-  pub code : a .code ≡ b .code
-  pub number : a .number ≡ b .number
+-- two answers at one index; code and number of exempt ones are not compared, nor the bytes that hidden ones show
+pub record EqualAt (exempt hidden : Bool) (a b : Answer) : Type 0 where
+  pub code : exempt ≡ false → a .code ≡ b .code
+  pub number : exempt ≡ false → a .number ≡ b .number
   pub used : a .used ≡ b .used
-  pub shown : groupRuns G t ≡ false → a .shown ≡ b .shown
+  pub shown : hidden ≡ false → a .shown ≡ b .shown
 
 -- what is equal in two boxes after the lists
 pub record AgreeOutside (G : ℕ → Bool) (t u : Tables) : Type 0 where
@@ -75,6 +75,13 @@ pub record PremiseAt (box : Tables → Element → Result) (G : ℕ → Bool) (t
       → read (e .bytes) ≡ whole (protect i offset size draw) used → inside G i ≡ false → box t e .answer .code ≡ 0
       → ownBytes t offset size ≡ ownBytes u offset size
 
+-- which answers are exempt: of a group, the first run's tables just before the call, and its element
+abbrev pub Exemption : Type 0
+Exemption = (ℕ → Bool) → Tables → Element → Bool
+
+abbrev pub noneExempt : Exemption
+noneExempt G t e = false
+
 module _ (box : Tables → Element → Result) (G : ℕ → Bool) (es fs : List Element) where
   pub record AlikeLists : Type 0 where
     pub long : length es ≡ length fs
@@ -84,10 +91,13 @@ module _ (box : Tables → Element → Result) (G : ℕ → Bool) (es fs : List 
   Premise = (k : ℕ) → k < length es
       → PremiseAt box G (tablesBefore box es k) (tablesBefore box fs k) (elementAt es k)
 
-  pub record EqualOutside : Type 0 where
-    pub answers : (k : ℕ) → k < length es → EqualAt G (tablesBefore box es k) (answerAt box es k) (answerAt box fs k)
+  pub record EqualOutside (exempt : Exemption) : Type 0 where
+    pub answers : (k : ℕ) → k < length es
+        → let t = tablesBefore box es k in
+        EqualAt (exempt G t (elementAt es k)) (groupRuns G t) (answerAt box es k) (answerAt box fs k)
     pub end : AgreeOutside G (tablesAfter box es) (tablesAfter box fs)
 
--- demand 3
+-- demand 3: no answer is exempt
 abbrev pub Secrecy : (Tables → Element → Result) → Type 0
-Secrecy box = (G : ℕ → Bool) (es fs : List Element) → AlikeLists box G es fs → Premise box G es fs → EqualOutside box G es fs
+Secrecy box = (G : ℕ → Bool) (es fs : List Element) → AlikeLists box G es fs → Premise box G es fs
+    → EqualOutside box G es fs noneExempt

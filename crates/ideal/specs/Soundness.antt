@@ -1,10 +1,11 @@
 -- Which lent buffers are of their size, and which boxes are sound: document 01's list, in its order.
 use Prim.Native.Nat.{ℕ, _+_, _/_, _^_}
-use mathlib.Core.Bool.{Bool, true, false, not, _&&_, _||_}
+use mathlib.Core.Bool.{Bool, true, not, _&&_, _||_}
 use mathlib.Core.List.{List, [], _∷_}
 use lib.ListN.{length, getD, drop}
 use lib.Dec.{eqb, ltb, leb}
 use Rattle.fnv.specs.Fnv.{tagOf}
+unfoldable pub use Rattle.lists.specs.Lists.{allZero}
 use Rattle.ideal.specs.declared.BoxRecord.{BoxRecord}
 use Rattle.ideal.specs.declared.LogRow.{LogRow}
 use Rattle.ideal.specs.declared.EscrowRow.{EscrowRow}
@@ -39,9 +40,6 @@ sizesRight t outputSize =
 -- the running place is 16 or taken
 unfoldable pub runningTaken : BoxRecord → Bool
 runningTaken b = eqb (b .running) 16 || (ltb (b .running) 16 && not (eqb (getD (b .identities) (b .running) 0) 0))
-
-unfoldable pub allZero : List ℕ → Bool
-allZero l = every (λ b. eqb b 0) l
 
 -- an empty place's heap is all zeros
 unfoldable pub emptyHeapsZero : List ℕ → List (List ℕ) → Bool

@@ -1,11 +1,9 @@
 -- The state of the box, in the terms of the CAIF paper's ideal functionality (its section 3).
 use Prim.Native.Nat.{ℕ, _+_}
-use mathlib.Core.Bool.{Bool, true, false, _&&_, _||_, cond}
-use mathlib.Core.List.{List, [], _∷_, _++_}
-use mathlib.Core.Option.{Option, none, some}
+use mathlib.Core.List.{List, [], _∷_}
 use lib.ListN.{length, getD, take, drop, replicate}
-use lib.Dec.{eqb}
 use Rattle.fnv.specs.declared.Tag.{Tag}
+unfoldable pub use Rattle.lists.specs.Lists.{any, every, find, sameBytes}
 use Rattle.record.specs.declared.Handle.{Handle}
 
 -- a value of 0 to 256 bytes, with what it is found by
@@ -37,6 +35,24 @@ pub record State : Type 0 where
   pub shared : List ℕ
   pub log : List Logged
   pub escrow : List Escrowed
+
+-- what an accepted call does to the state
+pub data Move : Type 0 where
+  nothing : Move
+  -- a place gets an identity
+  takes : (place identity : ℕ) → Move
+  -- a place runs, or none where it is 16
+  activates : (place : ℕ) → Move
+  -- a place is emptied, its heap zeroed, and none runs
+  empties : (place : ℕ) → Move
+  -- bytes into a place's heap
+  writes : (place offset : ℕ) (bytes : List ℕ) → Move
+  -- bytes into shared memory
+  shares : (offset : ℕ) (bytes : List ℕ) → Move
+  -- an entry to the log, unless its pair is there
+  logs : (entry : Logged) → Move
+  -- an entry to the escrow
+  escrows : (entry : Escrowed) → Move
 
 -- an empty place's heap
 unfoldable pub cleared : List ℕ
@@ -70,26 +86,6 @@ part memory offset size = take size (drop offset memory)
 -- that part of the running heap
 unfoldable pub ownPart : State → ℕ → ℕ → List ℕ
 ownPart s offset size = part (heapAt s (s .running)) offset size
-
--- ---- lists
-
-unfoldable pub any : {A : Type 0} → (A → Bool) → List A → Bool
-any p [] = false
-any p (a ∷ l) = p a || any p l
-
-unfoldable pub every : {A : Type 0} → (A → Bool) → List A → Bool
-every p [] = true
-every p (a ∷ l) = p a && every p l
-
-unfoldable pub find : {A : Type 0} → (A → Bool) → List A → Option A
-find p [] = none
-find p (a ∷ l) = cond (p a) (some a) (find p l)
-
-unfoldable pub sameBytes : List ℕ → List ℕ → Bool
-sameBytes [] [] = true
-sameBytes [] (w ∷ ws) = false
-sameBytes (v ∷ vs) [] = false
-sameBytes (v ∷ vs) (w ∷ ws) = eqb v w && sameBytes vs ws
 
 -- the bytes of a list of values
 unfoldable pub bytesUsed : {Key : Type 0} → List (Entry Key) → ℕ

@@ -1,4 +1,4 @@
--- The thirteen calls on the state: their tests, effects, answer numbers and shown bytes (document 01's table).
+-- The thirteen calls on the state: their tests, moves, answer numbers and shown bytes (document 01's table).
 use Prim.Native.Nat.{ℕ, zero, suc, _+_, _*_, _%_, _^_}
 use mathlib.Core.Bool.{Bool, true, false, not, _&&_, _||_, cond}
 use mathlib.Core.List.{List, [], _∷_, _++_}
@@ -12,7 +12,7 @@ use Rattle.record.specs.declared.Handle.{Handle}
 use Rattle.record.specs.declared.Draw.{Draw}
 use Rattle.record.specs.Call.{Call, create, start, yield, exit, heapWrite, heapRead, sharedWrite, sharedRead, attest, check, protect, retrieve, report}
 use Rattle.record.specs.Read.{Reading, refused, whole, read}
-use Rattle.ideal.specs.State.{Entry, Logged, Escrowed, State, cleared, identityAt, heapAt, caller, part, ownPart, any, find, sameBytes, bytesUsed}
+use Rattle.ideal.specs.State.{Entry, Logged, Escrowed, State, Move, nothing, takes, activates, empties, writes, shares, logs, escrows, cleared, identityAt, heapAt, caller, part, ownPart, any, find, sameBytes, bytesUsed}
 
 infixr 20 _then_
 -- ---- the log
@@ -35,9 +35,13 @@ logged i g v l = any (isLogged i g v) l
 unfoldable pub full : {Key : Type 0} → List (Entry Key) → ℕ → Bool
 full l size = eqb (length l) 64 || ltb 4096 (bytesUsed l + size)
 
--- the log after a pair is attested: one entry more, or the same
-unfoldable pub withPair : ℕ → List ℕ → List Logged → List Logged
-withPair i v l = cond (paired i v l) l (l ++ (record { key = record { identity = i; tag = tagOf i v }; value = v } ∷ []))
+-- the entry of a pair
+abbrev pub pairOf : ℕ → List ℕ → Logged
+pairOf i v = record { key = record { identity = i; tag = tagOf i v }; value = v }
+
+-- the log with one entry more, or the same where its pair is there
+unfoldable pub withPair : Logged → List Logged → List Logged
+withPair e l = cond (paired (e .key .identity) (e .value) l) l (l ++ (e ∷ []))
 
 -- ---- the escrow
 
@@ -128,76 +132,6 @@ refusal s c = first (tests s c)
 
 -- ---- what an accepted call does
 
-unfoldable pub withHeap : State → List ℕ → State
-withHeap s h =
-    record {
-      identities = s .identities;
-      running = s .running;
-      heaps = set (s .heaps) (s .running) h;
-      shared = s .shared;
-      log = s .log;
-      escrow = s .escrow;
-    }
-
-unfoldable pub withRunning : State → ℕ → State
-withRunning s p =
-    record {
-      identities = s .identities;
-      running = p;
-      heaps = s .heaps;
-      shared = s .shared;
-      log = s .log;
-      escrow = s .escrow;
-    }
-
-unfoldable pub withIdentity : State → ℕ → ℕ → State
-withIdentity s p i =
-    record {
-      identities = set (s .identities) p i;
-      running = s .running;
-      heaps = s .heaps;
-      shared = s .shared;
-      log = s .log;
-      escrow = s .escrow;
-    }
-
-unfoldable pub withShared : State → List ℕ → State
-withShared s m =
-    record {
-      identities = s .identities;
-      running = s .running;
-      heaps = s .heaps;
-      shared = m;
-      log = s .log;
-      escrow = s .escrow;
-    }
-
-unfoldable pub withLog : State → List Logged → State
-withLog s l =
-    record {
-      identities = s .identities;
-      running = s .running;
-      heaps = s .heaps;
-      shared = s .shared;
-      log = l;
-      escrow = s .escrow;
-    }
-
-unfoldable pub withEscrow : State → List Escrowed → State
-withEscrow s l =
-    record {
-      identities = s .identities;
-      running = s .running;
-      heaps = s .heaps;
-      shared = s .shared;
-      log = s .log;
-      escrow = l;
-    }
-
--- the running heap with bytes at an offset
-unfoldable pub written : State → ℕ → List ℕ → State
-written s o v = withHeap s (sets (heapAt s (s .running)) o v)
-
 -- the entry that an accepted protect adds
 unfoldable pub protected : State → ℕ → ℕ → ℕ → Draw → Escrowed
 protected s recipient o n d =
@@ -206,20 +140,58 @@ protected s recipient o n d =
       value = ownPart s o n;
     }
 
+unfoldable pub move : State → Call → Move
+move s (create p i) = takes p i
+move s (start p) = activates p
+move s yield = activates 16
+move s exit = empties (s .running)
+move s (heapWrite p o v) = writes (s .running) o v
+move s (heapRead p o n) = nothing
+move s (sharedWrite o v) = shares o v
+move s (sharedRead o n) = nothing
+move s (attest o n) = logs (pairOf (caller s) (ownPart s o n))
+move s (check i g v) = nothing
+move s (protect i o n d) = escrows (protected s i o n d)
+move s (retrieve i o h) = writes (s .running) o (valueIn (found s i h))
+move s report = nothing
+
+-- ---- moves on the state
+
+abbrev pub withPlaces : State → (identities : List ℕ) (running : ℕ) (heaps : List (List ℕ)) → State
+withPlaces s identities running heaps =
+    record {
+      identities = identities;
+      running = running;
+      heaps = heaps;
+      shared = s .shared;
+      log = s .log;
+      escrow = s .escrow;
+    }
+
+-- what is common to all places
+abbrev pub withCommon : State → (shared : List ℕ) (log : List Logged) (escrow : List Escrowed) → State
+withCommon s shared log escrow =
+    record {
+      identities = s .identities;
+      running = s .running;
+      heaps = s .heaps;
+      shared = shared;
+      log = log;
+      escrow = escrow;
+    }
+
+unfoldable pub apply : State → Move → State
+apply s nothing = s
+apply s (takes p i) = withPlaces s (set (s .identities) p i) (s .running) (s .heaps)
+apply s (activates p) = withPlaces s (s .identities) p (s .heaps)
+apply s (empties p) = withPlaces s (set (s .identities) p 0) 16 (set (s .heaps) p cleared)
+apply s (writes p o v) = withPlaces s (s .identities) (s .running) (set (s .heaps) p (sets (heapAt s p) o v))
+apply s (shares o v) = withCommon s (sets (s .shared) o v) (s .log) (s .escrow)
+apply s (logs e) = withCommon s (s .shared) (withPair e (s .log)) (s .escrow)
+apply s (escrows e) = withCommon s (s .shared) (s .log) (s .escrow ++ (e ∷ []))
+
 unfoldable pub effect : State → Call → State
-effect s (create p i) = withIdentity s p i
-effect s (start p) = withRunning s p
-effect s yield = withRunning s 16
-effect s exit = withRunning (withIdentity (withHeap s cleared) (s .running) 0) 16
-effect s (heapWrite p o v) = written s o v
-effect s (heapRead p o n) = s
-effect s (sharedWrite o v) = withShared s (sets (s .shared) o v)
-effect s (sharedRead o n) = s
-effect s (attest o n) = withLog s (withPair (caller s) (ownPart s o n) (s .log))
-effect s (check i g v) = s
-effect s (protect i o n d) = withEscrow s (s .escrow ++ (protected s i o n d ∷ []))
-effect s (retrieve i o h) = written s o (valueIn (found s i h))
-effect s report = s
+effect s c = apply s (move s c)
 
 -- ---- what it answers
 

@@ -8,7 +8,7 @@ use Rattle.ideal.specs.declared.BoxRecord.{BoxRecord}
 use Rattle.ideal.specs.declared.Used.{Used}
 use Rattle.ideal.specs.declared.LogRow.{LogRow}
 use Rattle.ideal.specs.declared.EscrowRow.{EscrowRow}
-use Rattle.ideal.specs.State.{Entry, LogKey, EscrowKey, Logged, Escrowed, State, part, bytesUsed}
+use Rattle.ideal.specs.State.{Entry, LogKey, EscrowKey, State, part, bytesUsed}
 
 -- what a host hands from call to call
 pub record Tables : Type 0 where

@@ -12,56 +12,42 @@ use Rattle.fnv.specs.Fnv.{tagOf}
 use Rattle.record.specs.Call.{Call, attest, check}
 use Rattle.ideal.specs.declared.BoxRecord.{BoxRecord}
 use Rattle.ideal.specs.declared.LogRow.{LogRow}
-use Rattle.ideal.specs.declared.Used.{Used}
 use Rattle.ideal.specs.State.{Logged, State, caller, part, ownPart, every}
-use Rattle.ideal.specs.Step.{paired, logged, full, withPair, withLog, first, idle, beyond, tests, refusal, effect, number, shown, refusedAnswer, refuse, accepted, settle, step}
+use Rattle.ideal.specs.Step.{paired, logged, full, withPair, withCommon, first, idle, beyond, tests, refusal, move, apply, effect, number, shown, refusedAnswer, refuse, accepted, settle, step}
 use Rattle.ideal.specs.Tables.{Tables, logTable, rowsFrom, flat, usedBy, boxRecord, tables, stateOf}
 use Rattle.ideal.specs.Soundness.{hasIdentity}
 use Rattle.ideal.specs.Box.{Result, laid}
-use Rattle.ideal.proofs.Bools.{by-cases, and-right, and-other, not-is}
+use Rattle.lists.proofs.Bools.{by-cases, and-right, and-other, not-is}
 use Rattle.ideal.specs.Valid.{Valid}
 use Rattle.ideal.proofs.Chain.{failed, passed}
 use Rattle.ideal.proofs.Kept.{own-size, busy}
-use Rattle.ideal.proofs.Table.{Stands, entries-back, log-lawful}
+use Rattle.ideal.proofs.Table.{entries-back, log-lawful}
 use Rattle.ideal.proofs.Facts.{log-tests}
-use Rattle.ideal.proofs.Fit.{rows-fit}
 use Rattle.ideal.proofs.More.{row-added, value-added, counts-raised}
 use Rattle.ideal.proofs.Memory.{flat-part}
 use Rattle.state.specs.Answers.{settled, answered}
-use Rattle.state.proofs.Settled.{answerOf}
-use Rattle.log.specs.Narrow.{LogFits, LogResult, logOf, moreLog, attested, attestOn, checkOn}
+use Rattle.state.proofs.Settled.{answerOf, ShowsNone}
+use Rattle.log.specs.Narrow.{moreLog, attested, attestOn, checkOn}
 use Rattle.state.specs.Counts.{Room, fullBy}
-use Rattle.state.specs.NewRow.{logRowsWith, escrowRowsWith, RowAdded}
+use Rattle.state.specs.Parts.{logOf}
+use Rattle.state.specs.Edits.{EditsBy, Stored, changed}
+use Rattle.state.proofs.Edited.{no-edits, log-added}
 use Rattle.state.proofs.Rooms.{has-room}
 use Rattle.pairs.proofs.Pairs.{paired-logged}
 
--- what attest and check require of the log, of a sound one
-pub log-fits : {rows : List LogRow} {values : List ℕ} {used : Used} → Stands logTable rows values used → LogFits used rows values
-log-fits {rows} {values} {used} s =
-    record { few = s .few; size = s .value-count; fit = rows-fit logTable rows values used s }
-
--- the host's tables with the row added and the other parts of the log replaced, and the whole answer
-abbrev pub onLog : Tables → LogResult → ℕ → Result
+-- the host's tables with the log's parts replaced, and the whole answer
+abbrev pub onLog : Tables → Stored → ℕ → Result
 onLog t r used =
     record {
-      tables =
-          record {
-            box = r .held;
-            heaps = t .heaps;
-            shared = t .shared;
-            logRows = logRowsWith (t .box) (r .added) (t .logRows);
-            logValues = r .values;
-            escrowRows = escrowRowsWith (t .box) (r .added) (t .escrowRows);
-            escrowValues = t .escrowValues;
-          };
-      answer = answerOf (r .answer) used [];
+      tables = changed t (r .change) (t .heaps) (t .shared) (r .values) (t .escrowValues);
+      answer = answerOf (r .change .answer) used [];
     }
 
 -- one entry more
 added : (s : State) (e : Logged) (used : ℕ) → Room (tables s .box .log) (length (e .value))
-    → laid (record { state = withLog s (s .log ++ (e ∷ [])); answer = record { code = 0; number = e .key .tag .0; used = used; shown = [] } })
-    ≡ onLog (tables s) (moreLog (tables s .box) (tables s .logValues) (e .key .identity) (e .key .tag) (e .value)) used
-unfolding laid withLog tables boxRecord moreLog logRowsWith escrowRowsWith
+    → laid (record { state = withCommon s (s .shared) (s .log ++ (e ∷ [])) (s .escrow); answer = record { code = 0; number = e .key .tag .0; used = used; shown = [] } })
+    ≡ onLog (tables s) (moreLog (tables s .box) (tables s .logValues) (e .key) (e .value)) used
+unfolding laid tables boxRecord moreLog
 added s e used room = λ j.
     record {
       tables =
@@ -96,7 +82,7 @@ module _ (s : State) (k : Valid s) (o n used : ℕ) where
   leaves r v = onLog t (attested r (t .box) (t .logRows) (t .logValues) (caller s) (tagOf (caller s) v) v) used
 
   refused : (m : ℕ) (v : List ℕ) → laid (settle (suc m) s c used) ≡ leaves (suc m) v
-  unfolding laid settle refuse refusedAnswer attested settled logRowsWith escrowRowsWith
+  unfolding laid settle refuse refusedAnswer attested settled
   refused m v = refl
 
   used-log : logOf (t .box) (t .logRows) (t .logValues) ≡ s .log
@@ -134,7 +120,7 @@ module _ (s : State) (k : Valid s) (o n used : ℕ) where
         sym (paired-logged i v (s .log) tags)
 
     attests : not (paired i v (s .log)) && full (s .log) n ≡ false → laid (settle 0 s c used) ≡ leaves 0 v
-    unfolding laid settle accepted effect number shown withPair withLog attested settled logRowsWith escrowRowsWith
+    unfolding laid settle accepted effect move apply number shown withPair attested settled
     attests h =
         let size = own-size s o n k (busy s k runs) within in
         by-cases (paired i v (s .log))
@@ -170,7 +156,7 @@ check-laid : (s : State) (i : ℕ) (g : Tag) (v : List ℕ) (used : ℕ) → lai
       tables = tables s;
       answer = answerOf (checkOn (tables s .box) (tables s .logRows) (tables s .logValues) i g v) used [];
     }
-unfolding laid step refusal tests first settle refuse refusedAnswer accepted effect number shown checkOn answered tables boxRecord
+unfolding laid step refusal tests first settle refuse refusedAnswer accepted effect move apply number shown checkOn answered tables boxRecord
 check-laid s i g v used = by-cases (eqb i 0) (λ e. rw e) (λ e. rw (e, entries-back log-lawful (s .log)))
 
 pub check-step : (t : Tables) → Valid (stateOf t) → tables (stateOf t) ≡ t → (i : ℕ) (g : Tag) (v : List ℕ) (used : ℕ)
@@ -180,45 +166,35 @@ check-step t k e i g v used =
     check-laid (stateOf t) i g v used
     ∙ ap (λ x. record { tables = x; answer = answerOf (checkOn (x .box) (x .logRows) (x .logValues) i g v) used [] }) e
 
--- ---- an attest adds a row only where one is not used
+-- ---- an attest puts a row only where one is not used
 
-attested-adds : (r : ℕ) (b : BoxRecord) (rows : List LogRow) (values : List ℕ) (i : ℕ) (g : Tag) (v : List ℕ)
+attested-edits : (r : ℕ) (b : BoxRecord) (rows : List LogRow) (values : List ℕ) (i : ℕ) (g : Tag) (v : List ℕ)
     → (r ≡ 0 → logged i g v (logOf b rows values) ≡ false → b .log .rows < 64)
-    → RowAdded b (attested r b rows values i g v .held) (attested r b rows values i g v .added)
-unfolding attested settled moreLog RowAdded
-attested-adds zero b rows values i g v h =
-    by-cases (logged i g v (logOf b rows values)) (λ e. rw e (refl, refl)) (λ e. rw e (refl, refl, h refl e))
-attested-adds (suc r) b rows values i g v h = (refl, refl)
+    → let c = attested r b rows values i g v .change in EditsBy b (c .held) (c .edits)
+unfolding attested settled moreLog
+attested-edits zero b rows values i g v h =
+    by-cases (logged i g v (logOf b rows values)) (λ e. rw e (no-edits b b refl refl)) (λ e. rw e (log-added b _ refl refl (h refl e)))
+attested-edits (suc r) b rows values i g v h = no-edits b b refl refl
 
-pub attest-adds : (b : BoxRecord) (rows : List LogRow) (heaps values : List ℕ) (o n : ℕ) → b .log .rows ≤ 64
-    → RowAdded b (attestOn b rows heaps values o n .held) (attestOn b rows heaps values o n .added)
+pub attest-edits : (b : BoxRecord) (rows : List LogRow) (heaps values : List ℕ) (o n : ℕ) → b .log .rows ≤ 64
+    → let c = attestOn b rows heaps values o n .change in EditsBy b (c .held) (c .edits)
 unfolding attestOn
-attest-adds b rows heaps values o n few =
-    attested-adds _ b rows values _ _ _ (λ e f.
+attest-edits b rows heaps values o n few =
+    attested-edits _ b rows values _ _ _ (λ e f.
     let e₁ = passed 3 (eqb (b .running) 16) _ e in
     let e₂ = passed 10 (beyond 256 o n) _ e₁ in
     let other = failed 12 _ _ e₂ in
     has-room (b .log) n few (and-other _ (fullBy (b .log) n) (not-is _ f) other) .row)
 
--- ---- neither shows bytes
+-- ---- it uses no byte of a record, and shows none
 
-attested-shows : (r : ℕ) (b : BoxRecord) (rows : List LogRow) (values : List ℕ) (i : ℕ) (g : Tag) (v : List ℕ)
-    → attested r b rows values i g v .answer .shown ≡ 0
+attested-alone : (r : ℕ) (b : BoxRecord) (rows : List LogRow) (values : List ℕ) (i : ℕ) (g : Tag) (v : List ℕ)
+    → ShowsNone (attested r b rows values i g v .change .answer)
 unfolding attested settled moreLog
-attested-shows zero b rows values i g v = by-cases (logged i g v (logOf b rows values)) (λ e. rw e) (λ e. rw e)
-attested-shows (suc r) b rows values i g v = refl
+attested-alone zero b rows values i g v = by-cases (logged i g v (logOf b rows values)) (λ e. rw e (refl, refl)) (λ e. rw e (refl, refl))
+attested-alone (suc r) b rows values i g v = (refl, refl)
 
-pub attest-shows : (b : BoxRecord) (rows : List LogRow) (heaps values : List ℕ) (o n : ℕ)
-    → attestOn b rows heaps values o n .answer .shown ≡ 0
+pub attest-alone : (b : BoxRecord) (rows : List LogRow) (heaps values : List ℕ) (o n : ℕ)
+    → ShowsNone (attestOn b rows heaps values o n .change .answer)
 unfolding attestOn
-attest-shows b rows heaps values o n = attested-shows _ b rows values _ _ _
-
-answered-shows : (r n : ℕ) → answered r n .shown ≡ 0
-unfolding answered
-answered-shows zero n = refl
-answered-shows (suc r) n = refl
-
-pub check-shows : (b : BoxRecord) (rows : List LogRow) (values : List ℕ) (i : ℕ) (g : Tag) (v : List ℕ)
-    → checkOn b rows values i g v .shown ≡ 0
-unfolding checkOn
-check-shows b rows values i g v = answered-shows _ _
+attest-alone b rows heaps values o n = attested-alone _ b rows values _ _ _

@@ -1,90 +1,68 @@
 -- What attest and check leave and answer, on the parts of the box that they are given.
-use Prim.Native.Nat.{ℕ, _+_, _*_, _≤_}
-use mathlib.Core.Path.{_≡_}
-use mathlib.Core.Bool.{not, _&&_, cond}
+use Prim.Native.Nat.{ℕ, _+_}
+use mathlib.Core.Bool.{true, not, _&&_, cond}
 use mathlib.Core.List.{List}
-use lib.ListN.{length, getD, take}
+use lib.ListN.{length}
 use lib.Seq.{sets}
 use lib.Dec.{eqb}
 use Rattle.fnv.specs.declared.Tag.{Tag}
 use Rattle.fnv.specs.Fnv.{tagOf}
 use Rattle.ideal.specs.declared.BoxRecord.{BoxRecord}
 use Rattle.ideal.specs.declared.LogRow.{LogRow}
-use Rattle.ideal.specs.declared.Used.{Used}
-use Rattle.ideal.specs.State.{Logged, part}
+use Rattle.ideal.specs.State.{LogKey, part}
 use Rattle.ideal.specs.Step.{logged, accept, _then_, first, beyond}
-use Rattle.ideal.specs.Tables.{logTable, entriesOf}
-use Rattle.ideal.specs.Fit.{RowsFit}
+use Rattle.ideal.specs.Tables.{logTable}
 use Rattle.state.specs.declared.Answer.{Answer}
-use Rattle.state.specs.declared.Added.{Added}
-use Rattle.state.specs.declared.Added.the-variants.{Nothing, Log}
-use Rattle.state.specs.declared.BoxAnswer.{BoxAnswer}
 use Rattle.state.specs.Counts.{fullBy}
+use Rattle.state.specs.Parts.{callerOf, heapByte, logOf}
 use Rattle.state.specs.Answers.{refusedWith, acceptedWith, settled, answered}
-
--- ---- what callers show
-
--- the used rows are rows of the table, and lie within its value bytes
-pub record LogFits (used : Used) (rows : List LogRow) (values : List ℕ) : Type 0 where
-  pub few : used .rows ≤ 64
-  pub size : length values ≡ 4096
-  pub fit : RowsFit logTable rows (used .rows) (length values)
+use Rattle.state.specs.Edits.{noEscrowEdit, Stored, kept, raised}
 
 -- ---- what is left and answered
 
-pub record LogResult : Type 0 where
-  pub held : BoxRecord
-  pub added : Added
-  pub values : List ℕ
-  pub answer : Answer
-
--- an answer with the value bytes at exit
-abbrev pub resultOf : BoxAnswer → List ℕ → LogResult
-resultOf r values = record { held = r .held; added = r .added; values = values; answer = r .answer }
-
--- the log that the used rows stand for
-abbrev pub logOf : BoxRecord → List LogRow → List ℕ → List Logged
-logOf b rows values = entriesOf logTable values (take (b .log .rows) rows)
-
 -- ---- attest
 
-abbrev pub keptLog : BoxRecord → List ℕ → Answer → LogResult
-keptLog b values answer = record { held = b; added = Nothing; values = values; answer = answer }
-
 -- one row and its value more
-unfoldable pub moreLog : BoxRecord → List ℕ → ℕ → Tag → List ℕ → LogResult
-moreLog b values i g v =
+unfoldable pub moreLog : BoxRecord → List ℕ → LogKey → List ℕ → Stored
+moreLog b values k v =
     let used = b .log in
     record {
-      held =
+      change =
           record {
-            taken = b .taken;
-            running = b .running;
-            identities = b .identities;
-            log = record { rows = used .rows + 1; bytes = used .bytes + length v };
-            escrow = b .escrow;
+            held =
+                record {
+                  taken = b .taken;
+                  running = b .running;
+                  identities = b .identities;
+                  log = raised used (length v);
+                  escrow = b .escrow;
+                };
+            edits =
+                record {
+                  log = record { put = true; at = used .rows; row = logTable .row k (used .bytes) (length v) };
+                  escrow = noEscrowEdit;
+                };
+            answer = acceptedWith (k .tag .0);
           };
-      added = Log (logTable .row (record { identity = i; tag = g }) (used .bytes) (length v));
       values = sets values (used .bytes) v;
-      answer = acceptedWith (g .0);
     }
 
 -- a value attested with its tag, unless it is refused: a row more where there is none yet
-unfoldable pub attested : (refusal : ℕ) → BoxRecord → List LogRow → List ℕ → ℕ → Tag → List ℕ → LogResult
+unfoldable pub attested : (refusal : ℕ) → BoxRecord → List LogRow → List ℕ → ℕ → Tag → List ℕ → Stored
 attested refusal b rows values i g v =
-    settled refusal (keptLog b values (refusedWith refusal))
-    (cond (logged i g v (logOf b rows values)) (keptLog b values (acceptedWith (g .0))) (moreLog b values i g v))
+    settled refusal (kept b values (refusedWith refusal))
+    (cond (logged i g v (logOf b rows values)) (kept b values (acceptedWith (g .0))) (moreLog b values (record { identity = i; tag = g }) v))
 
 -- the last of attest's tests alone
-unfoldable pub attestValue : BoxRecord → List LogRow → List ℕ → ℕ → Tag → List ℕ → LogResult
+unfoldable pub attestValue : BoxRecord → List LogRow → List ℕ → ℕ → Tag → List ℕ → Stored
 attestValue b rows values i g v =
     let refusal = first ((13, not (logged i g v (logOf b rows values)) && fullBy (b .log) (length v)) then accept) in
     attested refusal b rows values i g v
 
-unfoldable pub attestOn : BoxRecord → (rows : List LogRow) → (heaps values : List ℕ) → (offset size : ℕ) → LogResult
+unfoldable pub attestOn : BoxRecord → (rows : List LogRow) → (heaps values : List ℕ) → (offset size : ℕ) → Stored
 attestOn b rows heaps values o n =
-    let i = getD (b .identities) (b .running) 0 in
-    let v = part heaps (256 * b .running + o) n in
+    let i = callerOf b in
+    let v = part heaps (heapByte b o) n in
     let g = tagOf i v in
     let refusal =
     first

@@ -2,8 +2,11 @@
 ghost use mathlib.Core.Path.{_≡_};
 ghost use Prim.Native.Nat.{_≤_};
 ghost use lib.ListN.{length};
+ghost use Rattle.ideal.specs.Tables.{logTable};
 ghost use Rattle.state.specs.Counts.{Room};
-ghost use Rattle.log.specs.Narrow.{LogFits, resultOf, moreLog, attestValue, attestOn, checkOn};
+ghost use Rattle.state.specs.Edits.{stored};
+ghost use Rattle.state.specs.Parts.{TableFits};
+ghost use Rattle.log.specs.Narrow.{moreLog, attestValue, attestOn, checkOn};
 use buffers::put;
 use fnv::Tag;
 use fnv::tag_of;
@@ -11,19 +14,22 @@ use ideal::BoxRecord;
 use ideal::LogRow;
 use ideal::Used;
 use pairs::in_log;
-use state::Added;
 use state::Answer;
-use state::BoxAnswer;
+use state::Change;
+use state::Edits;
+use state::LogEdit;
 use state::LogTable;
 use state::accepted;
 use state::is_full;
+use state::no_escrow_edit;
 use state::refuse;
 use state::refused;
+use state::unedited;
 
 // One row and its value more.
-fn log_more(b: BoxRecord, values: &mut [u8], identity: u64, tag: Tag, value: &[u8]) -> BoxAnswer
+fn log_more(b: BoxRecord, values: &mut [u8], identity: u64, tag: Tag, value: &[u8]) -> Change
     requires { ⌜ (length (now values) ≡ 4096) × Room (b .log) (length (now value)) ⌝ }
-    ensures { λ r. ⌜ resultOf r (now (values .exit)) ≡ moreLog b (now (values .entry)) identity tag (now (value .entry)) ⌝ }
+    ensures { λ r. ⌜ stored r (now (values .exit)) ≡ moreLog b (now (values .entry)) (record { identity = identity; tag = tag }) (now (value .entry)) ⌝ }
 {
     let used = b.log;
     let size = value.len() as u16;
@@ -40,9 +46,18 @@ fn log_more(b: BoxRecord, values: &mut [u8], identity: u64, tag: Tag, value: &[u
     };
     let mut next = b;
     next.log = raised;
-    BoxAnswer {
+    let edit = LogEdit {
+        put: true,
+        at: used.rows as usize,
+        row,
+    };
+    let edits = Edits {
+        log: edit,
+        escrow: no_escrow_edit(),
+    };
+    Change {
         held: next,
-        added: Added::Log(row),
+        edits,
         answer: accepted(tag.0),
     }
 }
@@ -55,18 +70,14 @@ fn attest_value(
     identity: u64,
     tag: Tag,
     value: &[u8],
-) -> BoxAnswer
-    requires { ⌜ LogFits (b .log) (log .rows) (now values) × (length (now value) ≤ 256) ⌝ }
-    ensures { λ r. ⌜ resultOf r (now (values .exit)) ≡ attestValue b (log .rows) (now (values .entry)) identity tag (now (value .entry)) ⌝ }
+) -> Change
+    requires { ⌜ TableFits logTable (b .log) (log .rows) (now values) × (length (now value) ≤ 256) ⌝ }
+    ensures { λ r. ⌜ stored r (now (values .exit)) ≡ attestValue b (log .rows) (now (values .entry)) identity tag (now (value .entry)) ⌝ }
 {
     let used = b.log;
     let rows = log.rows;
     if in_log(rows, used.rows as usize, values, identity, tag, value) {
-        return BoxAnswer {
-            held: b,
-            added: Added::Nothing,
-            answer: accepted(tag.0),
-        };
+        return unedited(b, accepted(tag.0));
     }
     if is_full(used, value.len()) {
         return refuse(b, 13);
@@ -82,9 +93,9 @@ pub fn attest(
     values: &mut [u8],
     offset: u16,
     size: u16,
-) -> BoxAnswer
-    requires { ⌜ (b .running ≤ 16) × (length (now heaps) ≡ 4096) × LogFits (b .log) (log .rows) (now values) ⌝ }
-    ensures { λ r. ⌜ resultOf r (now (values .exit)) ≡ attestOn b (log .rows) (now (heaps .entry)) (now (values .entry)) offset size ⌝ }
+) -> Change
+    requires { ⌜ (b .running ≤ 16) × (length (now heaps) ≡ 4096) × TableFits logTable (b .log) (log .rows) (now values) ⌝ }
+    ensures { λ r. ⌜ stored r (now (values .exit)) ≡ attestOn b (log .rows) (now (heaps .entry)) (now (values .entry)) offset size ⌝ }
 {
     if b.running == 16 {
         return refuse(b, 4);
@@ -110,7 +121,7 @@ pub fn check_pair(
     tag: Tag,
     value: &[u8],
 ) -> Answer
-    requires { ⌜ LogFits (b .log) (log .rows) (now values) ⌝ }
+    requires { ⌜ TableFits logTable (b .log) (log .rows) (now values) ⌝ }
     ensures { λ r. ⌜ r ≡ checkOn b (log .rows) (now (values .entry)) identity tag (now (value .entry)) ⌝ }
 {
     if identity == 0 {

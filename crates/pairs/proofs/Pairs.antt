@@ -9,8 +9,8 @@ use Rattle.fnv.specs.Fnv.{tagOf}
 use Rattle.ideal.specs.State.{Logged, any, every, sameBytes}
 use Rattle.ideal.specs.Step.{isPair, isLogged, paired, logged}
 use Rattle.ideal.specs.Soundness.{rightTag}
-use Rattle.ideal.proofs.Bools.{by-cases, and-left, and-right, and-false}
-use Rattle.ideal.proofs.Lists.{same-bytes}
+use Rattle.lists.proofs.Bools.{by-cases, and-left, and-right, and-false}
+use Rattle.lists.proofs.Lists.{same-bytes}
 
 module _ (i : ℕ) (v : List ℕ) where
   pub pair-logged : (r : Logged) → rightTag r ≡ true → isPair i v r ≡ isLogged i (tagOf i v) v r

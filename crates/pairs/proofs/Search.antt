@@ -9,7 +9,7 @@ use Rattle.ideal.specs.declared.LogRow.{LogRow}
 use Rattle.ideal.specs.State.{any}
 use Rattle.ideal.specs.Step.{isLogged, logged}
 use Rattle.ideal.specs.Tables.{logTable, entryOf, entriesOf}
-use Rattle.buffers.proofs.Loops.{one-on}
+use Rattle.lists.proofs.Lists.{one-on}
 
 pub search-step : (values : List ℕ) (rows : List LogRow) (n i k : ℕ) (g : Tag) (v : List ℕ) → i < n → n ≤ length rows
     → logged k g v (entriesOf logTable values (drop i (take n rows)))

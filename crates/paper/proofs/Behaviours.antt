@@ -2,39 +2,28 @@
 use Prim.Native.Nat.{ℕ, zero, suc, _+_, _≤_, _<_}
 use mathlib.Core.Path.{_≡_, refl, sym, ap, _∙_}
 use mathlib.Core.List.{List, [], _∷_, _++_, append-assoc}
-use mathlib.Core.Option.{some}
+use mathlib.Core.Option.{Option, none, some}
 use native.Mathlib.Omega.{arith}
 use lib.ListN.{length, take, length-append}
 use lib.Dec.{eqb, ltb}
 use borrow.Author.Tests.{ltb-true, ltb-false}
-use Rattle.record.specs.Call.{Call, create, start, yield, exit, heapWrite, heapRead, sharedWrite, sharedRead, attest, check, protect, retrieve, report}
 use Rattle.record.specs.Read.{Reading, refused, whole, read, cut}
 use Rattle.ideal.specs.Tables.{Tables}
 use Rattle.ideal.specs.Box.{Element, Result, elementAt, tablesFrom}
-use Rattle.paper.specs.Paper.{Event, eventOf, eventOn, events, behaviourFrom, eventAt}
-use Rattle.ideal.proofs.Bools.{by-cases}
+use Rattle.ideal.specs.Refusals.{ownBytes}
+use Rattle.paper.specs.Paper.{Command, Event, commandOf, eventOf, events, behaviourFrom, eventAt}
+use Rattle.lists.proofs.Bools.{by-cases}
 
-few-on : (t : Tables) (r : Result) (c : Call) → length (eventOn t r c) ≤ 1
-unfolding eventOn eventOf
-few-on t r (create p i) = omega arith
-few-on t r (start p) = omega arith
-few-on t r yield = omega arith
-few-on t r exit = omega arith
-few-on t r (heapWrite p o v) = omega arith
-few-on t r (heapRead p o n) = omega arith
-few-on t r (sharedWrite o v) = omega arith
-few-on t r (sharedRead o n) = omega arith
-few-on t r (attest o n) = omega arith
-few-on t r (check i g v) = omega arith
-few-on t r (protect i o n d) = omega arith
-few-on t r (retrieve i o h) = omega arith
-few-on t r report = omega arith
+few-of : (t : Tables) (r : Result) (c : Option Command) → length (eventOf t r c) ≤ 1
+unfolding eventOf
+few-of t r none = omega arith
+few-of t r (some c) = omega arith
 
 few : (t : Tables) (r : Result) (y : Reading) → length (events t r y) ≤ 1
 unfolding events
 few t r (refused code number) = omega arith
 few t r (whole c used) =
-    by-cases (eqb (r .answer .code) 15) (λ e. rw e (omega arith)) (λ e. rw e (few-on t r c))
+    by-cases (eqb (r .answer .code) 15) (λ e. rw e (omega arith)) (λ e. rw e (few-of t r (commandOf (ownBytes t) c)))
 
 module _ (box : Tables → Element → Result) where
   -- the events of the call at an index, none or one

@@ -18,11 +18,10 @@ use Rattle.ideal.specs.Tables.{Tables, freshTables}
 use Rattle.ideal.specs.Box.{Element, Result, callOn, elementAt, tablesAfter, tablesBefore, answerAt}
 use Rattle.ideal.specs.Refusals.{callerIn, ownBytes}
 use Rattle.ideal.specs.Accuracy.{Earlier, LogsAt, ProtectsAt, HandsOut, Sized, Says}
-use Rattle.paper.specs.Paper.{Command, iattest, icheck, iprotect, iretrieve, Response, tag, truth, handle, value, fails, Event, principalIn, eventOf, eventOn, events, behaviour, eventAt}
-use Rattle.ideal.proofs.Bools.{by-cases, clash}
+use Rattle.paper.specs.Paper.{Command, iattest, icheck, iprotect, iretrieve, Response, tag, truth, handle, value, fails, Event, principalIn, commandOf, given, eventOf, events, behaviour, eventAt}
+use Rattle.lists.proofs.Bools.{by-cases, clash}
 use Rattle.ideal.proofs.Runs.{stateBefore, valid-before, running-before, tables-next, sized-at, accepted-at}
-use Rattle.ideal.proofs.Logs.{attest-passed}
-use Rattle.ideal.proofs.Escrows.{protect-passed}
+use Rattle.ideal.proofs.Does.{attest-passed, protect-passed}
 use Rattle.paper.proofs.Behaviours.{eventsAt, countAt, call-of, event-of, call-before, event-before, in-list}
 
 -- ---- an event, and the call that it is of
@@ -47,47 +46,47 @@ Was t c (icheck p v τ) = c ≡ check p τ v
 Was t c (iprotect q v) = WasProtect t c q v
 Was t c (iretrieve p η o) = c ≡ retrieve p o η
 
--- what the command gives where it is accepted
-abbrev pub given : Result → Command → Response
-given r (iattest v) = tag (record { 0 = r .answer .number })
-given r (icheck p v τ) = truth (eqb (r .answer .number) 1)
-given r (iprotect q v) = handle (record { 0 = r .answer .number })
-given r (iretrieve p η o) = value (ownBytes (r .tables) o (r .answer .number))
-
 pub record Executes (t : Tables) (r : Result) (c : Call) (ev : Event) : Type 0 where
   pub was : Was t c (ev .command)
   pub principal : principalIn t ≡ ev .principal
   pub result : cond (eqb (r .answer .code) 0) (given r (ev .command)) (fails (r .answer .code)) ≡ ev .result
 
-executes : (t : Tables) (r : Result) (c : Call) (d : Command) (x : Response) (ev : Event) → Was t c d → given r d ≡ x
-    → eventOf t r d x ≡ ev ∷ [] → Executes t r c ev
-unfolding eventOf
-executes t r c d x ev w g h =
-    let code = r .answer .code in
-    let made : Event = record { command = d; principal = principalIn t; result = cond (eqb code 0) x (fails code) } in
-    let e : made ≡ ev = cc in
-    subst (λ y. Executes t r c y) e (record { was = w; principal = refl; result = rw g })
-
 nil : {P : Type 0} (ev : Event) → [] ≡ ev ∷ [] → P
 nil ev h = absurd (let x : _≡_ {A = ℕ} 0 1 = ap length h in omega arith)
 
-executed : (t : Tables) (r : Result) (c : Call) (ev : Event) → eventOn t r c ≡ ev ∷ [] → Executes t r c ev
-unfolding eventOn
-executed t r (create p i) ev h = nil ev h
-executed t r (start p) ev h = nil ev h
-executed t r yield ev h = nil ev h
-executed t r exit ev h = nil ev h
-executed t r (heapWrite p o v) ev h = nil ev h
-executed t r (heapRead p o n) ev h = nil ev h
-executed t r (sharedWrite o v) ev h = nil ev h
-executed t r (sharedRead o n) ev h = nil ev h
-executed t r (attest o n) ev h =
-    executes t r _ (iattest (ownBytes t o n)) _ ev (record { offset = o; size = n; call = refl; bytes = refl }) refl h
-executed t r (check i g v) ev h = executes t r _ (icheck i v g) _ ev refl refl h
-executed t r (protect i o n d) ev h =
-    executes t r _ (iprotect i (ownBytes t o n)) _ ev (record { offset = o; size = n; draw = d; call = refl; bytes = refl }) refl h
-executed t r (retrieve i o a) ev h = executes t r _ (iretrieve i a o) _ ev refl refl h
-executed t r report ev h = nil ev h
+no-command : {P : Type 0} (d : Command) → none ≡ some d → P
+no-command d h = absurd (let x : _≡_ {A = ℕ} 0 1 = cc in omega arith)
+
+is-command : (t : Tables) (c : Call) (x d : Command) → some x ≡ some d → Was t c x → Was t c d
+is-command t c x d h w = let e : x ≡ d = cc in subst (Was t c) e w
+
+was : (t : Tables) (c : Call) (d : Command) → commandOf (ownBytes t) c ≡ some d → Was t c d
+unfolding commandOf
+was t (create p i) d h = no-command d h
+was t (start p) d h = no-command d h
+was t yield d h = no-command d h
+was t exit d h = no-command d h
+was t (heapWrite p o v) d h = no-command d h
+was t (heapRead p o n) d h = no-command d h
+was t (sharedWrite o v) d h = no-command d h
+was t (sharedRead o n) d h = no-command d h
+was t (attest o n) d h =
+    is-command t _ (iattest (ownBytes t o n)) d h (record { offset = o; size = n; call = refl; bytes = refl })
+was t (check i g v) d h = is-command t _ (icheck i v g) d h refl
+was t (protect i o n x) d h =
+    is-command t _ (iprotect i (ownBytes t o n)) d h (record { offset = o; size = n; draw = x; call = refl; bytes = refl })
+was t (retrieve i o a) d h = is-command t _ (iretrieve i a o) d h refl
+was t report d h = no-command d h
+
+executed : (t : Tables) (r : Result) (c : Call) (ev : Event) (x : Option Command) → commandOf (ownBytes t) c ≡ x
+    → eventOf t r x ≡ ev ∷ [] → Executes t r c ev
+unfolding eventOf
+executed t r c ev none q h = nil ev h
+executed t r c ev (some d) q h =
+    let code = r .answer .code in
+    let made : Event = record { command = d; principal = principalIn t; result = cond (eqb code 0) (given r d) (fails code) } in
+    let e : made ≡ ev = cc in
+    subst (λ y. Executes t r c y) e (record { was = was t c d q; principal = refl; result = refl })
 
 -- what was read to an event: a call, which the box did not answer 15
 pub record Seen (t : Tables) (r : Result) (y : Reading) (ev : Event) : Type 0 where
@@ -103,7 +102,7 @@ seen t r (refused code number) ev h = nil ev h
 seen t r (whole c used) ev h =
     by-cases (eqb (r .answer .code) 15)
     (λ e. nil ev (rw e at h))
-    (λ e. record { call = c; used = used; reads = refl; reached = eqb-false _ 15 e; did = executed t r c ev (rw e at h) })
+    (λ e. record { call = c; used = used; reads = refl; reached = eqb-false _ 15 e; did = executed t r c ev _ refl (rw e at h) })
 
 -- ---- results and principals
 
@@ -245,14 +244,15 @@ module _ (es : List Element) where
 pub gave-it : (code : ℕ) (x : Response) → code ≡ 0 → cond (eqb code 0) x (fails code) ≡ x
 gave-it code x e = rw e
 
-pub made : (t : Tables) (r : Result) (c d : Command) (x y : Response) (p : Option ℕ) → r .answer .code ≡ 0 → principalIn t ≡ p
-    → c ≡ d → x ≡ y
-    → eventOf t r c x ≡ record { command = d; principal = p; result = y } ∷ []
+pub made : (t : Tables) (r : Result) (c d : Command) (y : Response) (p : Option ℕ) → r .answer .code ≡ 0 → principalIn t ≡ p
+    → c ≡ d → given r c ≡ y
+    → eventOf t r (some c) ≡ record { command = d; principal = p; result = y } ∷ []
 unfolding eventOf
-made t r c d x y p z a b e =
-    let q = gave-it (r .answer .code) x z ∙ e in λ m. record { command = b m; principal = a m; result = q m } ∷ []
+made t r c d y p z a b e =
+    let q = gave-it (r .answer .code) (given r c) z ∙ e in λ m. record { command = b m; principal = a m; result = q m } ∷ []
 
-pub accepted-event : (t : Tables) (r : Result) (c : Call) (used : ℕ) (ev : Event) → r .answer .code ≡ 0 → eventOn t r c ≡ ev ∷ []
+pub accepted-event : (t : Tables) (r : Result) (c : Call) (used : ℕ) (ev : Event) → r .answer .code ≡ 0
+    → eventOf t r (commandOf (ownBytes t) c) ≡ ev ∷ []
     → events t r (whole c used) ≡ ev ∷ []
 unfolding events
 accepted-event t r c used ev z h = let n : eqb (r .answer .code) 15 ≡ false = ap (λ m. eqb m 15) z in rw n h
@@ -265,7 +265,7 @@ module _ (es : List Element) (k : ℕ) where
   r = callOn t (elementAt es k)
 
   call-event : (c : Call) (used : ℕ) (ev : Event) → read (elementAt es k .bytes) ≡ whole c used → answerAt callOn es k .code ≡ 0
-      → eventOn t r c ≡ ev ∷ [] → eventsAt callOn freshTables es k ≡ ev ∷ []
+      → eventOf t r (commandOf (ownBytes t) c) ≡ ev ∷ [] → eventsAt callOn freshTables es k ≡ ev ∷ []
   unfolding tablesBefore tablesAfter answerAt
   call-event c used ev reads z h = rw reads (accepted-event _ _ c used ev z h)
 
@@ -274,33 +274,33 @@ module _ (es : List Element) (k : ℕ) where
 
   pub attest-event : (p : ℕ) (v : List ℕ) (τ : Tag) → LogsAt callOn es p v τ k
       → eventsAt callOn freshTables es k ≡ record { command = iattest v; principal = some p; result = tag τ } ∷ []
-  unfolding eventOn answerAt
+  unfolding commandOf answerAt
   attest-event p v τ l =
       let c = attest (l .offset) (l .size) in
       let a = accepted-at es k c (l .used) (l .reads) (l .accepts) in
-      let b = attest-passed (stateBefore es k) (l .offset) (l .size) (valid-before es k) (a .passes) .0 in
+      let b = attest-passed (stateBefore es k) (l .offset) (l .size) (valid-before es k) (a .passes) .runs in
       let g : record { 0 = answerAt callOn es k .number } ≡ τ = λ m. record { 0 = l .gets m } in
       call-event c (l .used) _ (l .reads) (l .accepts)
-      (made t r _ _ _ _ _ (l .accepts) (principal-is t p (runs b) (l .by)) (ap iattest (l .bytes)) (ap tag g))
+      (made t r _ _ _ _ (l .accepts) (principal-is t p (runs b) (l .by)) (ap iattest (l .bytes)) (ap tag g))
 
   pub protect-event : (p q : ℕ) (η : Handle) (v : List ℕ) → ProtectsAt callOn es p q η v k
       → eventsAt callOn freshTables es k ≡ record { command = iprotect q v; principal = some p; result = handle η } ∷ []
-  unfolding eventOn answerAt
+  unfolding commandOf answerAt
   protect-event p q η v l =
       let c = protect q (l .offset) (l .size) (l .draw) in
       let a = accepted-at es k c (l .used) (l .reads) (l .accepts) in
       let b = protect-passed (stateBefore es k) q (l .offset) (l .size) (l .draw) (valid-before es k) (a .passes) .runs in
       let g : record { 0 = answerAt callOn es k .number } ≡ η = λ m. record { 0 = l .gets m } in
       call-event c (l .used) _ (l .reads) (l .accepts)
-      (made t r _ _ _ _ _ (l .accepts) (principal-is t p (runs b) (l .by)) (ap (iprotect q) (l .bytes)) (ap handle g))
+      (made t r _ _ _ _ (l .accepts) (principal-is t p (runs b) (l .by)) (ap (iprotect q) (l .bytes)) (ap handle g))
 
   pub check-event : (p n used : ℕ) (τ : Tag) (v : List ℕ) → read (elementAt es k .bytes) ≡ whole (check p τ v) used
       → Says callOn es n k
       → eventsAt callOn freshTables es k
       ≡ record { command = icheck p v τ; principal = principalIn t; result = truth (eqb n 1) } ∷ []
-  unfolding eventOn answerAt
+  unfolding commandOf answerAt
   check-event p n used τ v reads z =
-      call-event (check p τ v) used _ reads (z .0) (made t r _ _ _ _ _ (z .0) refl refl (ap (λ m. truth (eqb m 1)) (z .1)))
+      call-event (check p τ v) used _ reads (z .0) (made t r _ _ _ _ (z .0) refl refl (ap (λ m. truth (eqb m 1)) (z .1)))
 
   -- what stands in the running heap after an accepted retrieve
   pub after-retrieve : (o : ℕ) (v : List ℕ) → HandsOut callOn es o v k → ownBytes (r .tables) o (answerAt callOn es k .number) ≡ v
@@ -311,7 +311,7 @@ module _ (es : List Element) (k : ℕ) where
   pub retrieve-event : (p o used : ℕ) (η : Handle) (v : List ℕ) → read (elementAt es k .bytes) ≡ whole (retrieve p o η) used
       → HandsOut callOn es o v k
       → eventsAt callOn freshTables es k ≡ record { command = iretrieve p η o; principal = principalIn t; result = value v } ∷ []
-  unfolding eventOn answerAt
+  unfolding commandOf answerAt
   retrieve-event p o used η v reads h =
       call-event (retrieve p o η) used _ reads (h .accepts .0)
-      (made t r _ _ _ _ _ (h .accepts .0) refl refl (ap value (after-retrieve o v h)))
+      (made t r _ _ _ _ (h .accepts .0) refl refl (ap value (after-retrieve o v h)))

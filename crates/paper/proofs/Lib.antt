@@ -1,4 +1,3 @@
-pub mod SameStep
 pub mod Behaviours
 pub mod Events
 pub mod Paper

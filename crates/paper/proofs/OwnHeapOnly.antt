@@ -14,13 +14,13 @@ use Rattle.ideal.specs.Box.{Element, laid, callOn}
 use Rattle.ideal.specs.Layouts.{Sound}
 use Rattle.ideal.specs.Valid.{Valid}
 use Rattle.paper.specs.ServiceLife.{heapOf, OnlyOtherHeaps, ReadsOwnHeap}
-use Rattle.ideal.proofs.Bools.{by-cases, clash, and-false, and-other, not-is}
+use Rattle.lists.proofs.Bools.{by-cases, clash, and-false, and-other, not-is}
 use Rattle.ideal.proofs.Heaps.{chunks-length}
 use Rattle.ideal.proofs.Laid.{valid-sound, tables-state, valid-step, call-is}
 use Rattle.ideal.proofs.Hosted.{heap-is}
 use Rattle.ideal.proofs.TwoEscrows.{SameEscrow, no-entries, entry, same-escrow}
 use Rattle.ideal.proofs.TwoStates.{Secrets, SameBut, NoneTold}
-use Rattle.paper.proofs.SameStep.{both-element}
+use Rattle.ideal.proofs.TwoSteps.{both-element, all-equal}
 use Rattle.ideal.proofs.Secret.{same-box, same-escrow-rows}
 
 -- the heaps of taken places other than p
@@ -117,8 +117,8 @@ tells s t e v w k =
       protects = λ g. clash _ g (own-open p (caller s));
       retrieves = λ g i o h q r. refl;
     } in
-    let b = both-element (others p) k (own-open p (caller s)) e (λ x c u y. none c) in
-    rw (call-is s e v, call-is t e w) (b .answer, only-others p (b .state) (valid-step s e v) (valid-step t e w))
+    let b = both-element (others p) k e (λ x c u y. none c) in
+    rw (call-is s e v, call-is t e w) (all-equal (own-open p (caller s)) (b .answer), only-others p (b .state) (valid-step s e v) (valid-step t e w))
 
 pub reads-own-heap : ReadsOwnHeap callOn
 unfolding stateOf

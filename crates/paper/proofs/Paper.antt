@@ -1,5 +1,5 @@
 -- The lemmas of specs/Paper.antt, proved of the box; Lemma 3 is in Unretrieved and Schematic. Assumes nothing.
-use Prim.Native.Nat.{ℕ, _<_}
+use Prim.Native.Nat.{ℕ, _/_, _^_, _<_}
 use mathlib.Core.Path.{_≡_, refl, sym, ap, _∙_}
 use mathlib.Core.Bool.{true, cond, false≢true}
 use mathlib.Core.List.{List}
@@ -11,15 +11,17 @@ use Rattle.record.specs.declared.Handle.{Handle}
 use Rattle.record.specs.declared.Draw.{Draw}
 use Rattle.record.specs.Call.{attest, protect, retrieve}
 use Rattle.ideal.specs.Step.{idle, tests, first, refusal}
-use Rattle.ideal.specs.Tables.{Tables, freshTables}
+use Rattle.ideal.specs.Tables.{Tables, stateOf, freshTables}
 use Rattle.ideal.specs.Box.{Element, callOn, elementAt, tablesBefore, answerAt}
 use Rattle.ideal.specs.Refusals.{ownBytes}
 use Rattle.ideal.specs.Accuracy.{Earlier, ProtectsAt, candidate, handleUsed, FirstFree}
 use Rattle.paper.specs.Paper.{Command, iattest, icheck, iprotect, iretrieve, Response, truth, value, fails, behaviour, needsService, Lemma1-1, Lemma1-2, Lemma2-1, Lemma2-2, OnlyServices, Definition1, Gives, Assumption-i, Assumption-ii, Assumption-iii}
-use Rattle.ideal.proofs.Bools.{by-cases, clash}
+use Rattle.lists.proofs.Bools.{by-cases, clash}
 use Rattle.ideal.proofs.Runs.{stateBefore, running-before, code-at}
 use Rattle.ideal.proofs.Checks.{check-at}
 use Rattle.ideal.proofs.Retrieves.{retrieve-at, handed}
+use Rattle.ideal.proofs.Free.{handle-size}
+use Rattle.ideal.proofs.Handles.{gives}
 use Rattle.ideal.proofs.Accurate.{handle-once, handle-is-first-free}
 use Rattle.paper.proofs.Behaviours.{event-of}
 use Rattle.paper.proofs.Events.{EventOf, fails?, event-at, earlier, event-earlier, sized, reads-as, gave, logs-at, protects-at, caller-is, runs-none, gave-it, attest-event, check-event, protect-event, retrieve-event, after-retrieve}
@@ -150,14 +152,14 @@ assumption-i t u n d η ζ same x y =
     (λ r. let a = ltb-false (f .passed) (g .passed) q in let b = ltb-false (g .passed) (f .passed) r in omega arith)) in
     ap (λ h. h .0) (f .is ∙ ap (candidate n (d .0)) e ∙ sym (g .is))
 
+handle-of : (t : Tables) (n : ℕ) (d : Draw) (η : ℕ) → Gives callOn t n d η → η / 2 ^ 48 ≡ n
+handle-of t n d η g =
+    let f = gives t (g .element) (g .recipient) (g .offset) n d (g .used) (g .reads) (g .accepts) in
+    let s = handle-size n d (stateOf t .escrow) (f .few) (f .small) in
+    rw (← g .gets, f .is) s
+
 pub assumption-ii : Assumption-ii callOn
-unfolding candidate
-assumption-ii t u n m d c η x y =
-    let f = first-free-of t n d η x in
-    let g = first-free-of u m c η y in
-    let a = ap (λ h. h .0) (f .is) in
-    let b = ap (λ h. h .0) (g .is) in
-    omega arith
+assumption-ii t u n m d c η x y = sym (handle-of t n d η x) ∙ handle-of u m c η y
 
 pub assumption-iii : Assumption-iii callOn
 assumption-iii = record { no-re-use = handle-once; resamples = handle-is-first-free }

@@ -16,7 +16,7 @@ use Rattle.record.specs.Write.{write, filled}
 use Rattle.record.specs.Statements.{ReadsBack, Fits}
 use Rattle.record.proofs.RoundTrip.{reads-back}
 use Rattle.ideal.specs.State.{State, heapAt, caller, part, ownPart}
-use Rattle.ideal.specs.Step.{refusal, tests, first, idle, beyond, effect, number, withHeap, withEscrow, written, protected, accepted}
+use Rattle.ideal.specs.Step.{refusal, tests, first, idle, beyond, protected, move, apply, effect, number, accepted}
 use Rattle.ideal.specs.Tables.{Tables, freshTables, boxRecord, tables}
 use Rattle.ideal.specs.Box.{Element, Result, laid, callOn, elementAt, tablesFrom, tablesAfter, tablesBefore}
 use Rattle.ideal.specs.Refusals.{ownBytes}
@@ -24,16 +24,16 @@ use Rattle.ideal.specs.Accuracy.{ProtectsAt}
 use Rattle.ideal.specs.History.{within}
 use Rattle.ideal.specs.Valid.{Valid}
 use Rattle.ideal.specs.Witness.{element}
-use Rattle.paper.specs.Paper.{iprotect, iretrieve, handle, value, Event, eventOn, events, behaviourFrom, behaviour, eventAt, Occurs, NeverRetrieved, BehavesWithTwo, Lemma3-1}
-use Rattle.ideal.proofs.Bools.{by-cases, clash, and-left, and-right, and-true}
+use Rattle.paper.specs.Paper.{iprotect, iretrieve, handle, value, Event, commandOf, eventOf, events, behaviourFrom, behaviour, eventAt, Occurs, NeverRetrieved, BehavesWithTwo, Lemma3-1}
+use Rattle.lists.proofs.Bools.{by-cases, clash, and-left, and-right, and-true}
 use Rattle.ideal.proofs.Memory.{sets-byte, part-at}
 use Rattle.ideal.proofs.Facts.{facts}
 use Rattle.ideal.proofs.Accepts.{sound-of}
-use Rattle.ideal.proofs.Kept.{own-size}
+use Rattle.ideal.proofs.Does.{own-size}
 use Rattle.ideal.proofs.Laid.{valid-effect, call-is}
 use Rattle.ideal.proofs.Runs.{stateBefore, valid-before, tables-before, caller-before, own-before, Accepted, accepted-call, accepted-at, number-at}
 use Rattle.ideal.proofs.OwnHeap.{own-bytes, written-stands}
-use Rattle.ideal.proofs.Escrows.{ProtectPassed, protect-passed}
+use Rattle.ideal.proofs.Does.{ProtectPassed, protect-passed}
 use Rattle.ideal.proofs.TwoEscrows.{SameEntry, same-escrow, same-more}
 use Rattle.ideal.proofs.TwoStates.{SameHeaps, SameBut}
 use Rattle.paper.proofs.Behaviours.{countAt, eventsAt, event-of, past, behaviour-append}
@@ -75,7 +75,7 @@ next-tables : (s : State) (e : Element) (c : Call) (used : ℕ) → Valid s → 
 next-tables s e c used v a = call-is s e v ∙ ap laid (accepted-call s e c used (a .reads) (a .sized) (a .passes))
 
 no-event : (t : Tables) (r : Result) (p o : ℕ) (w : List ℕ) (used : ℕ) → events t r (whole (heapWrite p o w) used) ≡ []
-unfolding events eventOn
+unfolding events eventOf commandOf
 no-event t r p o w used = by-cases (eqb (r .answer .code) 15) (λ e. rw e) (λ e. rw e)
 
 silent : (s : State) (e : Element) (es : List Element) (p o : ℕ) (w : List ℕ) (used : ℕ) → Valid s
@@ -95,7 +95,7 @@ module _ (p q o n : ℕ) (d : Draw) (η : Handle) (used : ℕ) where
   loud : (s : State) (e : Element) (es : List Element) (w : List ℕ) → Valid s → Accepted s e (protect q o n d) used → caller s ≡ p
       → number s (protect q o n d) ≡ η .0 → ownPart s o n ≡ w
       → behaviourFrom callOn (tables s) (e ∷ es) ≡ protects p q η w ∷ behaviourFrom callOn (tables (effect s (protect q o n d))) es
-  unfolding behaviourFrom laid accepted eventOn tables boxRecord
+  unfolding behaviourFrom laid accepted commandOf tables boxRecord
   loud s e es w v a by gets own =
       let c = protect q o n d in
       let t = tables s in
@@ -108,7 +108,7 @@ module _ (p q o n : ℕ) (d : Draw) (η : Handle) (used : ℕ) where
       let m = ap (λ y. y .answer .number) now ∙ gets in λ j. record { 0 = m j } in
       let one : events t r (whole c used) ≡ protects p q η w ∷ [] =
       accepted-event t r c used (protects p q η w) z
-      (made t r _ _ _ _ _ z (principal-is t p (λ y. omega arith) by) (ap (iprotect q) (own-bytes s v l o n (x .fits) ∙ own))
+      (made t r _ _ _ _ z (principal-is t p (λ y. omega arith) by) (ap (iprotect q) (own-bytes s v l o n (x .fits) ∙ own))
       (ap handle g)) in
       ap (λ y. events t r y ++ behaviourFrom callOn (r .tables) es) (a .reads)
       ∙ ap (λ y. y ++ behaviourFrom callOn (r .tables) es) one
@@ -171,19 +171,19 @@ module _ (s : State) (v : Valid s) (q o n : ℕ) (d : Draw) (r : refusal s (prot
   over-passes = write-accepted s o b (passes .runs) (let f = passes .fits in omega arith)
 
   it-passes : refusal s₁ it ≡ 0
-  unfolding refusal tests idle effect written withHeap
+  unfolding refusal tests idle effect move apply
   it-passes = r
 
   same-gets : number s₁ it ≡ number s it
-  unfolding number effect written withHeap
+  unfolding number effect move apply
   same-gets = refl
 
   back-passes : refusal s₂ back ≡ 0
-  unfolding effect written withHeap withEscrow
+  unfolding effect move apply
   back-passes = write-accepted s₂ o (ownPart s o n) (passes .runs) (let f = passes .fits in omega (arith, length-own))
 
   heaps-back : s₃ .heaps ≡ s .heaps
-  unfolding effect written withHeap withEscrow ownPart
+  unfolding effect move apply ownPart
   heaps-back =
       let p = s .running in
       let h = heapAt s p in
@@ -193,11 +193,11 @@ module _ (s : State) (v : Valid s) (q o n : ℕ) (d : Draw) (r : refusal s (prot
       (ap (set (s .heaps) p) (put-back h o n b size (omega (arith, v .sizes p l)) length-own) ∙ set-getD (s .heaps) p [])
 
   owned : ownPart s₁ o n ≡ b
-  unfolding effect
+  unfolding effect move
   owned = rw (← size) (written-stands s v (passes .runs) o b (let f = passes .fits in omega arith))
 
   same-caller : caller s₁ ≡ caller s
-  unfolding effect written withHeap
+  unfolding effect move apply
   same-caller = refl
 
   valid₁ : Valid s₁
@@ -210,7 +210,7 @@ module _ (s : State) (v : Valid s) (q o n : ℕ) (d : Draw) (r : refusal s (prot
   valid₃ = valid-effect s₂ back valid₂ back-passes
 
   same-after : (p : ℕ) (η : Handle) → caller s ≡ p → number s it ≡ η .0 → SameBut (unretrieved p q η) (effect s it) s₃
-  unfolding effect written withHeap withEscrow protected number
+  unfolding effect move apply protected number
   same-after p η by gets =
       let z = unretrieved p q η in
       let one : SameEntry (z .value) (protected s q o n d) (protected s₁ q o n d) =
@@ -325,7 +325,7 @@ module _ (es : List Element) (i : ℕ) (v b : List ℕ) (p q : ℕ) (η : Handle
   -- a retrieve of the value in the rest of the list would be an event after i
   never : ((j offset : ℕ) (w : List ℕ) → i < j → Occurs (behaviour callOn es) j (iretrieve p η offset) (some q) (value w) → ⊥)
       → NeverRetrieved callOn p q η (tables (effect s c)) rest
-  unfolding eventOn eventAt
+  unfolding commandOf eventAt
   never h m l x =
       let t = tablesFrom callOn (tables (effect s c)) (take m rest) in
       let f = elementAt rest m in
@@ -337,7 +337,7 @@ module _ (es : List Element) (i : ℕ) (v b : List ℕ) (p q : ℕ) (η : Handle
       let one : eventsAt callOn (tables (effect s c)) rest m ≡ ev ∷ [] =
       rw (x .reads)
       (accepted-event t (callOn t f) (retrieve p (x .offset) η) (x .used) ev (x .accepts)
-      (made t (callOn t f) _ _ _ _ _ (x .accepts) (principal-is t q runs (x .by)) refl refl)) in
+      (made t (callOn t f) _ _ _ _ (x .accepts) (principal-is t q runs (x .by)) refl refl)) in
       let j = countAt callOn (tables (effect s c)) rest m in
       let there = event-of callOn rest (tables (effect s c)) m ev one in
       let count = y .count in

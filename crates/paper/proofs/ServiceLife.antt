@@ -4,14 +4,14 @@ use mathlib.Core.Path.{_≡_, refl, sym, ap, _∙_, subst}
 use mathlib.Core.Bool.{true, false, _&&_}
 use mathlib.Core.List.{List, [], _∷_}
 use native.Mathlib.Omega.{arith}
-use lib.ListN.{length, replicate, length-replicate, getD-replicate}
+use lib.ListN.{length, getD, set, replicate, length-replicate, getD-replicate}
 use lib.Seq.{getD-set-same, getD-set-other, ext-getD}
 use lib.Dec.{eqb}
 use borrow.Author.Tests.{eqb-true, eqb-false, ltb-false, not-false}
-use Rattle.record.specs.Call.{Call, create, start, yield, exit, heapWrite, heapRead, sharedWrite, sharedRead, attest, check, protect, retrieve, report}
+use Rattle.record.specs.Call.{Call, yield, exit, heapRead}
 use Rattle.record.specs.Write.{filled}
-use Rattle.ideal.specs.State.{State, cleared, heapAt, part, ownPart, any}
-use Rattle.ideal.specs.Step.{idle, beyond, accepted, shown, refusal, tests, effect, withHeap, withRunning, withIdentity, withShared, withLog, withEscrow, written}
+use Rattle.ideal.specs.State.{State, Move, cleared, heapAt, part, ownPart}
+use Rattle.ideal.specs.Step.{idle, beyond, accepted, shown, refusal, tests, move, apply, effect}
 use Rattle.ideal.specs.Tables.{tables, stateOf}
 use Rattle.ideal.specs.Soundness.{sizesRight, sound}
 use Rattle.ideal.specs.Box.{Element, laid, unsound, callOn, elementAt, tablesBefore}
@@ -19,57 +19,48 @@ use Rattle.ideal.specs.Layouts.{Sound}
 use Rattle.ideal.specs.Refusals.{oneOf}
 use Rattle.ideal.specs.Valid.{Valid}
 use Rattle.paper.specs.ServiceLife.{heapOf, WritesOwnHeap, RunsAt, WritesAt, YieldKeeps, ExitClears, TenantReadsZeros}
-use Rattle.ideal.proofs.Bools.{by-cases, and-left, and-right}
+use Rattle.lists.proofs.Bools.{by-cases, and-left, and-right}
 use Rattle.ideal.proofs.Chain.{failed, passed}
-use Rattle.ideal.proofs.Kept.{busy}
+use Rattle.ideal.proofs.Does.{busy, Does, does-nothing, does-take, does-activate, does-empty, does-write, does-share, does-log, does-escrow}
+use Rattle.ideal.proofs.ByKind.{does}
 use Rattle.ideal.proofs.Laid.{stepElement, valid-sound, tables-state, valid-step, call-is}
 use Rattle.ideal.proofs.Memory.{part-at}
 use Rattle.ideal.proofs.Table.{part-length}
 use Rattle.ideal.proofs.Hosted.{heap-is}
 use Rattle.ideal.proofs.Runs.{stateBefore, valid-before, tables-before, running-before, stays, moves, moved, accepted-call, accepted-at, accepts-at, answer-at, state-next, state-after}
 
--- ---- what an accepted call does to the heap of place p
+-- ---- what an accepted call's move does to the heap of place p
 
-data Touch (s : State) (c : Call) (p : ℕ) : Type 0 where
-  keeps : heapAt (effect s c) p ≡ heapAt s p → Touch s c p
-  clears : s .running ≡ p → heapAt (effect s c) p ≡ cleared → Touch s c p
-  writes : s .running ≡ p → oneOf (5 ∷ 12 ∷ []) (filled c .kind) ≡ true → Touch s c p
+data Touch (s : State) (c : Call) (m : Move) (p : ℕ) : Type 0 where
+  keeps : heapAt (apply s m) p ≡ heapAt s p → Touch s c m p
+  clears : s .running ≡ p → heapAt (apply s m) p ≡ cleared → Touch s c m p
+  writes : s .running ≡ p → oneOf (5 ∷ 12 ∷ []) (filled c .kind) ≡ true → Touch s c m p
 
 -- the running heap with something in it
-others-kept : (s : State) (h : List ℕ) (p : ℕ) → eqb p (s .running) ≡ false → heapAt (withHeap s h) p ≡ heapAt s p
-unfolding withHeap
+others-kept : (s : State) (h : List ℕ) (p : ℕ) → eqb p (s .running) ≡ false → getD (set (s .heaps) (s .running) h) p [] ≡ heapAt s p
 others-kept s h p e = getD-set-other (s .heaps) (s .running) p h [] (eqb-false p (s .running) e)
 
-own-set : (s : State) (h : List ℕ) → Valid s → s .running < 16 → heapAt (withHeap s h) (s .running) ≡ h
-unfolding withHeap
+own-set : (s : State) (h : List ℕ) → Valid s → s .running < 16 → getD (set (s .heaps) (s .running) h) (s .running) [] ≡ h
 own-set s h v l = getD-set-same (s .heaps) (s .running) h [] (omega (arith, v .heaps))
 
-module _ (s : State) (p : ℕ) (v : Valid s) where
-  touch-exit : refusal s exit ≡ 0 → Touch s exit p
-  unfolding refusal tests effect withIdentity withRunning
-  touch-exit r =
+module _ {s : State} (p : ℕ) (v : Valid s) where
+  touch-of : {c : Call} {m : Move} → Does s c m → Touch s c m p
+  unfolding apply
+  touch-of does-nothing = keeps refl
+  touch-of (does-take h z n) = keeps refl
+  touch-of (does-activate h n) = keeps refl
+  touch-of (does-empty h) =
       by-cases (eqb p (s .running))
-      (λ e. let q = eqb-true p (s .running) e in
-      clears (sym q) (rw q (own-set s cleared v (busy s v (failed 3 _ _ r)))))
+      (λ e. let q = eqb-true p (s .running) e in clears (sym q) (rw q (own-set s cleared v h)))
       (λ e. keeps (others-kept s cleared p e))
+  touch-of (does-write w h f) =
+      by-cases (eqb p (s .running)) (λ e. writes (sym (eqb-true p (s .running) e)) w) (λ e. keeps (others-kept s _ p e))
+  touch-of (does-share f) = keeps refl
+  touch-of (does-log a) = keeps refl
+  touch-of (does-escrow a) = keeps refl
 
-  touch : (c : Call) → refusal s c ≡ 0 → Touch s c p
-  unfolding effect withRunning withIdentity withShared withLog withEscrow written oneOf any filled
-  touch (create q i) r = keeps refl
-  touch (start q) r = keeps refl
-  touch yield r = keeps refl
-  touch exit r = touch-exit r
-  touch (heapWrite q o w) r =
-      by-cases (eqb p (s .running)) (λ e. writes (sym (eqb-true p (s .running) e)) refl) (λ e. keeps (others-kept s _ p e))
-  touch (heapRead q o n) r = keeps refl
-  touch (sharedWrite o w) r = keeps refl
-  touch (sharedRead o n) r = keeps refl
-  touch (attest o n) r = keeps refl
-  touch (check i g w) r = keeps refl
-  touch (protect i o n d) r = keeps refl
-  touch (retrieve i o h) r =
-      by-cases (eqb p (s .running)) (λ e. writes (sym (eqb-true p (s .running) e)) refl) (λ e. keeps (others-kept s _ p e))
-  touch report r = keeps refl
+touch : (s : State) (p : ℕ) → Valid s → (c : Call) → refusal s c ≡ 0 → Touch s c (move s c) p
+touch s p v c r = touch-of p v (does s c v r)
 
 -- ---- a call of a list
 
@@ -84,6 +75,7 @@ module _ (es : List Element) (p : ℕ) (b : p < 16) where
   heap-before k = ap (λ t. heapOf t p) (tables-before es k) ∙ heap-is (stateBefore es k) (valid-before es k) p b
 
   touch-at : (k : ℕ) → TouchAt es p k
+  unfolding effect
   touch-at k =
       elim (moved (stateBefore es k) (elementAt es k)) [
         | stays q ↦ keeps (heap-before (suc k) ∙ ap (λ s. heapAt s p) (state-next es k ∙ q) ∙ sym (heap-before k))
@@ -135,7 +127,7 @@ runs-below : (es : List Element) (p k : ℕ) → RunsAt callOn es p k → idle (
 runs-below es p k r i = let l = busy (stateBefore es k) (valid-before es k) i in let e = running-before es k in omega arith
 
 pub yield-keeps : YieldKeeps callOn
-unfolding refusal tests effect withRunning
+unfolding refusal tests effect move apply
 yield-keeps es p k m used l y r h =
     let a = accepted-at es k yield used (y .0) (y .1) in
     let b = runs-below es p k r (failed 3 _ _ (a .passes)) in
@@ -143,7 +135,7 @@ yield-keeps es p k m used l y r h =
     ∙ heap-before es p b (suc k) ∙ ap (λ s. heapAt s p) (state-after es k yield used a) ∙ sym (heap-before es p b k)
 
 pub exit-clears : ExitClears callOn
-unfolding refusal tests effect withRunning withIdentity
+unfolding refusal tests effect move apply
 exit-clears es p k m used l y r h =
     let s = stateBefore es k in
     let a = accepted-at es k exit used (y .0) (y .1) in
@@ -183,7 +175,7 @@ tenant-reads-zeros es p k m o n used₁ used₂ l y r h z =
 
 own-only : (s : State) (e : Element) (p : ℕ) → Valid s → p < 16 → (s .running ≡ p → ⊥)
     → heapOf (callOn (tables s) e .tables) p ≡ heapOf (tables s) p
-unfolding laid accepted
+unfolding laid accepted effect
 own-only s e p v b n =
     let s′ = stepElement s e .state in
     let same : heapAt s′ p ≡ heapAt s p =

@@ -1,15 +1,16 @@
 -- A value that is escrowed and not retrieved shows nowhere: Lemma 3 of specs/Paper.antt. Assumes nothing.
-use Prim.Native.Nat.{ℕ, suc, _<_}
+use Prim.Native.Nat.{ℕ, suc, _+_, _*_, _<_}
 use mathlib.Core.Path.{_≡_, refl, sym, ap, _∙_, subst, subst₂}
 use mathlib.Core.Bool.{true, false, _&&_, cond, false≢true}
 use mathlib.Core.List.{List, [], _∷_, _++_}
 use native.Mathlib.Omega.{arith}
+use mathlib.Core.Option.{Option, none, some}
 use lib.ListN.{length, getD, length-take}
 use lib.Seq.{ext-getD, getD-take}
 use lib.Dec.{eqb}
 use borrow.Author.Tests.{eqb-true}
 use Rattle.record.specs.declared.Handle.{Handle}
-use Rattle.record.specs.Call.{Call, create, start, yield, exit, heapWrite, heapRead, sharedWrite, sharedRead, attest, check, protect, retrieve, report}
+use Rattle.record.specs.Call.{Call, retrieve}
 use Rattle.record.specs.Read.{Reading, refused, whole, read}
 use Rattle.ideal.specs.declared.EscrowRow.{EscrowRow}
 use Rattle.ideal.specs.State.{State, caller, part}
@@ -17,15 +18,15 @@ use Rattle.ideal.specs.Step.{refusal}
 use Rattle.ideal.specs.Tables.{Tables, escrowTable, entryOf, entriesOf, usedEscrow, boxRecord, tables, stateOf}
 use Rattle.ideal.specs.Box.{Element, Result, laid, callOn, elementAt, tablesFrom, answersFrom}
 use Rattle.ideal.specs.Layouts.{Sound}
-use Rattle.ideal.specs.Refusals.{isRow}
+use Rattle.ideal.specs.Refusals.{ownBytes, isRow}
 use Rattle.ideal.specs.Valid.{Valid}
-use Rattle.paper.specs.Paper.{principalIn, eventOf, eventOn, events, behaviourFrom, OnlyValue, NeverRetrieved, AgreeBut, Lemma3}
-use Rattle.ideal.proofs.Bools.{by-cases, and-left, and-right}
+use Rattle.paper.specs.Paper.{Command, iattest, icheck, iprotect, iretrieve, principalIn, commandOf, eventOf, events, behaviourFrom, OnlyValue, NeverRetrieved, AgreeBut, Lemma3}
+use Rattle.lists.proofs.Bools.{by-cases, and-left, and-right}
 use Rattle.ideal.proofs.Facts.{facts}
 use Rattle.ideal.proofs.Laid.{stepElement, valid-sound, tables-state, valid-step, call-is}
 use Rattle.ideal.proofs.TwoEscrows.{SameEntry, SameEscrow, no-entries, entry}
 use Rattle.ideal.proofs.TwoStates.{Secrets, SameBut, length-part, NoneTold}
-use Rattle.paper.proofs.SameStep.{both-element}
+use Rattle.ideal.proofs.TwoSteps.{both-element, all-equal}
 use Rattle.ideal.proofs.Secret.{accepted-code, same-box, same-escrow-rows, same-escrow-values}
 
 -- the value under one key may differ, and no heap
@@ -131,29 +132,23 @@ module _ (p q : ℕ) (η : Handle) where
   -- ---- runs
 
   -- the events of an element are told by the box record, the heaps and the answer
-  same-events-on : (t u : Tables) (r w : Result) (c : Call) → t .box ≡ u .box → t .heaps ≡ u .heaps → r .answer ≡ w .answer
-      → r .tables .box ≡ w .tables .box → r .tables .heaps ≡ w .tables .heaps → eventOn t r c ≡ eventOn u w c
-  unfolding eventOn eventOf principalIn
-  same-events-on t u r w (create p i) a b d e f = refl
-  same-events-on t u r w (start p) a b d e f = refl
-  same-events-on t u r w yield a b d e f = refl
-  same-events-on t u r w exit a b d e f = refl
-  same-events-on t u r w (heapWrite p o v) a b d e f = refl
-  same-events-on t u r w (heapRead p o n) a b d e f = refl
-  same-events-on t u r w (sharedWrite o v) a b d e f = refl
-  same-events-on t u r w (sharedRead o n) a b d e f = refl
-  same-events-on t u r w (attest o n) a b d e f = rw (a, b, d)
-  same-events-on t u r w (check i g v) a b d e f = rw (a, d)
-  same-events-on t u r w (protect i o n x) a b d e f = rw (a, b, d)
-  same-events-on t u r w (retrieve i o h) a b d e f = rw (a, d, e, f)
-  same-events-on t u r w report a b d e f = refl
+  same-events-of : (t u : Tables) (r w : Result) (c : Option Command) → t .box ≡ u .box → r .answer ≡ w .answer
+      → r .tables .box ≡ w .tables .box → r .tables .heaps ≡ w .tables .heaps → eventOf t r c ≡ eventOf u w c
+  unfolding eventOf principalIn
+  same-events-of t u r w none a d e f = refl
+  same-events-of t u r w (some (iattest v)) a d e f = rw (a, d)
+  same-events-of t u r w (some (icheck p v τ)) a d e f = rw (a, d)
+  same-events-of t u r w (some (iprotect q v)) a d e f = rw (a, d)
+  same-events-of t u r w (some (iretrieve p η o)) a d e f = rw (a, d, e, f)
 
   same-events : (t u : Tables) (r w : Result) (y : Reading) → t .box ≡ u .box → t .heaps ≡ u .heaps → r .answer ≡ w .answer
       → r .tables .box ≡ w .tables .box → r .tables .heaps ≡ w .tables .heaps → events t r y ≡ events u w y
   unfolding events
   same-events t u r w (refused code number) a b d e f = refl
   same-events t u r w (whole c used) a b d e f =
-      let n = same-events-on t u r w c a b d e f in λ m. cond (eqb (d m .code) 15) [] (n m)
+      let own : _≡_ {A = ℕ → ℕ → List ℕ} (ownBytes t) (ownBytes u) = λ m o n. part (b m) (256 * a m .running + o) n in
+      let n = same-events-of t u r w (commandOf (ownBytes t) c) a d e f ∙ ap (λ x. eventOf u w (commandOf x c)) own in
+      λ m. cond (eqb (d m .code) 15) [] (n m)
 
   never-later : (t : Tables) (e : Element) (es : List Element) → NeverRetrieved callOn p q η t (e ∷ es)
       → NeverRetrieved callOn p q η (callOn t e .tables) es
@@ -180,13 +175,13 @@ module _ (p q : ℕ) (η : Handle) where
   unfolding answersFrom behaviourFrom tablesFrom laid
   run [] s t v w k h = record { answers = refl; events = refl; end = only-value k v w }
   run (e ∷ es) s t v w k h =
-      let b = both-element z k refl e (λ x c u y. none-told (quiet s e es v h x c u y)) in
+      let b = both-element z k e (λ x c u y. none-told (quiet s e es v h x c u y)) in
       let s′ = stepElement s e .state in
       let t′ = stepElement t e .state in
       let i : callOn (tables s) e .tables ≡ tables s′ = ap (λ r. r .tables) (call-is s e v) in
       let j : callOn (tables t) e .tables ≡ tables t′ = ap (λ r. r .tables) (call-is t e w) in
       let a : callOn (tables s) e .answer ≡ callOn (tables t) e .answer =
-      ap (λ r. r .answer) (call-is s e v) ∙ b .answer ∙ ap (λ r. r .answer) (sym (call-is t e w)) in
+      ap (λ r. r .answer) (call-is s e v) ∙ all-equal refl (b .answer) ∙ ap (λ r. r .answer) (sym (call-is t e w)) in
       let v′ = valid-step s e v in
       let w′ = valid-step t e w in
       let rest : AgreeBut callOn p q η (callOn (tables s) e .tables) (callOn (tables t) e .tables) es =

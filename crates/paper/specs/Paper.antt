@@ -49,37 +49,45 @@ pub record Event : Type 0 where
 unfoldable pub principalIn : Tables → Option ℕ
 principalIn t = cond (eqb (t .box .running) 16) none (some (callerIn t))
 
--- a call that gave r on t, as an event
-unfoldable pub eventOf : Tables → Result → Command → Response → List Event
-eventOf t r command result =
+-- attest, check, protect and retrieve are instructions, where own is the parts of the caller's heap. The other nine kinds are
+-- none: they are "normal computational steps", or the auxiliary operations of 5.3.
+unfoldable pub commandOf : (own : (offset size : ℕ) → List ℕ) → Call → Option Command
+commandOf own (create p i) = none
+commandOf own (start p) = none
+commandOf own yield = none
+commandOf own exit = none
+commandOf own (heapWrite p o v) = none
+commandOf own (heapRead p o n) = none
+commandOf own (sharedWrite o v) = none
+commandOf own (sharedRead o n) = none
+commandOf own (attest o n) = some (iattest (own o n))
+commandOf own (check i g v) = some (icheck i v g)
+commandOf own (protect i o n d) = some (iprotect i (own o n))
+commandOf own (retrieve i o h) = some (iretrieve i h o)
+commandOf own report = none
+
+-- what a command gives that is accepted
+abbrev pub given : Result → Command → Response
+given r (iattest v) = tag (record { 0 = r .answer .number })
+given r (icheck p v τ) = truth (eqb (r .answer .number) 1)
+given r (iprotect q v) = handle (record { 0 = r .answer .number })
+given r (iretrieve p η offset) = value (ownBytes (r .tables) offset (r .answer .number))
+
+-- each command is an event, accepted or refused, where the call gave r on t
+unfoldable pub eventOf : Tables → Result → Option Command → List Event
+eventOf t r none = []
+eventOf t r (some c) =
     record {
-      command = command;
+      command = c;
       principal = principalIn t;
-      result = cond (eqb (r .answer .code) 0) result (fails (r .answer .code));
+      result = cond (eqb (r .answer .code) 0) (given r c) (fails (r .answer .code));
     }
     ∷ []
-
--- each attest, check, protect and retrieve is an event, accepted or refused. The other nine kinds are none: they are
--- "normal computational steps", or the auxiliary operations of 5.3.
-unfoldable pub eventOn : Tables → Result → Call → List Event
-eventOn t r (create p i) = []
-eventOn t r (start p) = []
-eventOn t r yield = []
-eventOn t r exit = []
-eventOn t r (heapWrite p o v) = []
-eventOn t r (heapRead p o n) = []
-eventOn t r (sharedWrite o v) = []
-eventOn t r (sharedRead o n) = []
-eventOn t r (attest o n) = eventOf t r (iattest (ownBytes t o n)) (tag (record { 0 = r .answer .number }))
-eventOn t r (check i g v) = eventOf t r (icheck i v g) (truth (eqb (r .answer .number) 1))
-eventOn t r (protect i o n d) = eventOf t r (iprotect i (ownBytes t o n)) (handle (record { 0 = r .answer .number }))
-eventOn t r (retrieve i o h) = eventOf t r (iretrieve i h o) (value (ownBytes (r .tables) o (r .answer .number)))
-eventOn t r report = []
 
 -- what the box answers 1, 2, 3 or 15 executes no instruction: there is no call, or the host lent no box to execute it on
 unfoldable pub events : Tables → Result → Reading → List Event
 events t r (refused code number) = []
-events t r (whole c used) = cond (eqb (r .answer .code) 15) [] (eventOn t r c)
+events t r (whole c used) = cond (eqb (r .answer .code) 15) [] (eventOf t r (commandOf (ownBytes t) c))
 
 module _ (box : Tables → Element → Result) where
   unfoldable pub behaviourFrom : Tables → List Element → List Event

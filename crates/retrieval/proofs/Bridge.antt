@@ -9,15 +9,15 @@ use lib.Dec.{eqb}
 use borrow.Author.Tests.{eqb-false, ltb-false}
 use Rattle.record.specs.declared.Handle.{Handle}
 use Rattle.record.specs.Call.{retrieve}
-use Rattle.ideal.specs.Step.{found, absent, valueIn, idle, beyond, tests, refusal, effect, number, shown, step}
+use Rattle.ideal.specs.Step.{found, absent, valueIn, idle, beyond, tests, refusal, move, apply, effect, number, shown, step}
 use Rattle.ideal.specs.Tables.{Tables, tables, stateOf}
 use Rattle.ideal.specs.Box.{laid}
 use Rattle.ideal.proofs.Chain.{failed, passed}
 use Rattle.ideal.specs.Valid.{Valid}
 use Rattle.ideal.proofs.HeapBytes.{replaceHeaps, written-bytes}
+use Rattle.state.specs.Parts.{heapByte}
+use Rattle.state.proofs.Parts.{HeapFits}
 use Rattle.state.proofs.Settled.{answerOf, part-settled, Moves, laid-step}
-use Rattle.escrow.specs.Narrow.{heapByte}
-use Rattle.escrow.proofs.Bridge.{HeapFits}
 use Rattle.retrieval.specs.Narrow.{foundOn, retrieveRefusal, retrieveAnswer, retrieveHeaps}
 
 module _ (t : Tables) (k : Valid (stateOf t)) (e : tables (stateOf t) ≡ t) where
@@ -42,7 +42,7 @@ module _ (t : Tables) (k : Valid (stateOf t)) (e : tables (stateOf t) ≡ t) whe
         }
 
     retrieve-moves : Moves t (replaceHeaps t (sets (t .heaps) (heapByte (t .box) o) handed)) (retrieve i o h) (length handed) []
-    unfolding effect number shown refusal tests found retrieveRefusal idle stateOf
+    unfolding effect move apply number shown refusal tests found retrieveRefusal idle stateOf
     retrieve-moves =
         record {
           leaves = λ r. let p = retrieves r in written-bytes t k e o handed (p .runs) (p .within);

@@ -12,7 +12,7 @@ use Rattle.ideal.specs.State.{Escrowed, find}
 use Rattle.ideal.specs.Step.{isEscrowed, absent, valueIn, accept, _then_, first, beyond}
 use Rattle.state.specs.declared.Answer.{Answer}
 use Rattle.state.specs.Answers.{settled, answered}
-use Rattle.escrow.specs.Narrow.{callerOf, heapByte, escrowOf}
+use Rattle.state.specs.Parts.{callerOf, heapByte, escrowOf}
 
 -- what the source escrowed for the running program under the handle
 abbrev pub foundOn : BoxRecord → List EscrowRow → List ℕ → (source : ℕ) → Handle → Option Escrowed

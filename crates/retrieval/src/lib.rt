@@ -6,7 +6,7 @@ ghost use lib.ListN.{length, take};
 ghost use Rattle.ideal.specs.State.{find};
 ghost use Rattle.ideal.specs.Step.{isEscrowed};
 ghost use Rattle.ideal.specs.Tables.{escrowTable, entryOf, entriesOf};
-ghost use Rattle.escrow.specs.Narrow.{EscrowFits};
+ghost use Rattle.state.specs.Parts.{TableFits};
 ghost use Rattle.retrieval.specs.Search.{entryFound, sought, Within};
 ghost use Rattle.retrieval.specs.Narrow.{retrieveAnswer, retrieveHeaps};
 use buffers::put;
@@ -64,7 +64,7 @@ pub fn retrieve(
     offset: u16,
     handle: Handle,
 ) -> Answer
-    requires { ⌜ (b .running ≤ 16) × (length (now heaps) ≡ 4096) × EscrowFits (b .escrow) (escrow .rows) (now values) ⌝ }
+    requires { ⌜ (b .running ≤ 16) × (length (now heaps) ≡ 4096) × TableFits escrowTable (b .escrow) (escrow .rows) (now values) ⌝ }
     ensures { λ r. ⌜ r ≡ retrieveAnswer b (escrow .rows) (now (values .entry)) source offset handle ⌝ }
     ensures { λ _. ⌜ now (heaps .exit) ≡ retrieveHeaps b (escrow .rows) (now (heaps .entry)) (now (values .entry)) source offset handle ⌝ }
 {

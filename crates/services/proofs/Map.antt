@@ -10,7 +10,7 @@ use lib.ListN.{length, getD, set, length-set}
 use lib.Seq.{set-set, set-getD, getD-set-same}
 use borrow.Author.Tests.{eq-eqb, ne-eqb}
 use Rattle.ideal.specs.Tables.{takenMap}
-use Rattle.ideal.proofs.Bools.{by-cases}
+use Rattle.lists.proofs.Bools.{by-cases}
 
 pub bit-fits : (p : ℕ) → p < 16 → 2 ^ p < 65536
 bit-fits p h = let k : 2 ^ p ≤ 2 ^ 15 = pow-le-pow-right {n = 2} (omega arith) {i = p} {j = 15} (omega arith) in omega arith

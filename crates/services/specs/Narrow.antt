@@ -1,7 +1,8 @@
--- What create and exit leave and answer, on the parts of the box that they are given.
-use Prim.Native.Nat.{ℕ, _*_, _≤_, _<_}
+-- What the calls on services leave and answer, on the parts of the box that they are given: create, start, yield, exit and
+-- report.
+use Prim.Native.Nat.{ℕ, _+_, _*_, _≤_, _<_}
 use mathlib.Core.Path.{_≡_}
-use mathlib.Core.Bool.{not}
+use mathlib.Core.Bool.{Bool, not}
 use mathlib.Core.List.{List}
 use lib.ListN.{length, getD, set}
 use lib.Seq.{sets}
@@ -10,9 +11,11 @@ use Rattle.ideal.specs.declared.BoxRecord.{BoxRecord}
 use Rattle.ideal.specs.State.{cleared}
 use Rattle.ideal.specs.Step.{Tests, accept, _then_, first}
 use Rattle.ideal.specs.Tables.{takenMap}
-use Rattle.state.specs.declared.BoxAnswer.{BoxAnswer}
-use Rattle.state.specs.Answers.{settled}
-use Rattle.running.specs.Narrow.{vacantIn, runningTests, boxWithRunning, settledBox}
+use Rattle.ideal.specs.History.{ones}
+use Rattle.state.specs.declared.Answer.{Answer}
+use Rattle.state.specs.declared.Change.{Change}
+use Rattle.state.specs.Answers.{settled, answered}
+use Rattle.state.specs.Edits.{unchanged}
 
 -- ---- what callers of exit show
 
@@ -22,10 +25,23 @@ pub record Leaving (b : BoxRecord) (heaps : List ℕ) : Type 0 where
   pub live : b .running < 16 → getD (b .identities) (b .running) 0 ≡ 0 → ⊥
   pub size : length heaps ≡ 4096
 
--- ---- the tests; exit's are those of yield
+-- ---- the tests
+
+abbrev pub idleIn : BoxRecord → Bool
+idleIn b = eqb (b .running) 16
+
+abbrev pub vacantIn : BoxRecord → ℕ → Bool
+vacantIn b p = eqb (getD (b .identities) p 0) 0
 
 abbrev pub createTests : BoxRecord → (place identity : ℕ) → Tests
 createTests b p i = (6, ltb 15 p) then (7, not (vacantIn b p)) then (9, eqb i 0) then accept
+
+abbrev pub startTests : BoxRecord → (place : ℕ) → Tests
+startTests b p = (5, not (idleIn b)) then (6, ltb 15 p) then (7, vacantIn b p) then accept
+
+-- of yield and of exit
+abbrev pub runningTests : BoxRecord → Tests
+runningTests b = (4, idleIn b) then accept
 
 -- ---- the box record after an accepted call
 
@@ -35,17 +51,37 @@ boxWithIdentity b p i =
     let ids = set (b .identities) p i in
     record { taken = takenMap ids; running = b .running; identities = ids; log = b .log; escrow = b .escrow }
 
+abbrev pub boxWithRunning : BoxRecord → (place : ℕ) → BoxRecord
+boxWithRunning b p = record { taken = b .taken; running = p; identities = b .identities; log = b .log; escrow = b .escrow }
+
 -- the running place emptied; none runs
 abbrev pub boxAfterExit : BoxRecord → BoxRecord
 boxAfterExit b = boxWithRunning (boxWithIdentity b (b .running) 0) 16
 
 -- ---- the calls
 
-unfoldable pub createOn : BoxRecord → (place identity : ℕ) → BoxAnswer
+abbrev pub settledBox : (refusal : ℕ) → (before after : BoxRecord) → (number : ℕ) → Change
+settledBox refusal before after number =
+    unchanged (settled refusal before after) (answered refusal number)
+
+unfoldable pub createOn : BoxRecord → (place identity : ℕ) → Change
 createOn b p i = settledBox (first (createTests b p i)) b (boxWithIdentity b p i) p
 
-unfoldable pub exitOn : BoxRecord → BoxAnswer
+unfoldable pub startOn : BoxRecord → (place : ℕ) → Change
+startOn b p = settledBox (first (startTests b p)) b (boxWithRunning b p) 0
+
+unfoldable pub yieldOn : BoxRecord → Change
+yieldOn b = settledBox (first (runningTests b)) b (boxWithRunning b 16) 0
+
+unfoldable pub exitOn : BoxRecord → Change
 exitOn b = settledBox (first (runningTests b)) b (boxAfterExit b) 0
 
 unfoldable pub exitHeaps : BoxRecord → List ℕ → List ℕ
 exitHeaps b heaps = settled (first (runningTests b)) heaps (sets heaps (256 * b .running) cleared)
+
+-- services + 256 times log rows + 65,536 times escrow rows; the services are the standing bits of the map
+abbrev pub counts : BoxRecord → ℕ
+counts b = ones 16 (b .taken) + 256 * b .log .rows + 65536 * b .escrow .rows
+
+unfoldable pub reportOn : BoxRecord → Answer
+reportOn b = answered (first accept) (counts b)

@@ -1,14 +1,19 @@
-// Create and exit: a place is taken and emptied.
+// Create and exit: a place is taken and emptied. Report: what the box holds.
+mod running;
+
+pub use running::start;
+pub use running::yield_running;
 ghost use mathlib.Core.Path.{_≡_};
 ghost use Prim.Native.Nat.{_^_, _<_};
 ghost use Rattle.ideal.specs.Tables.{takenMap};
-ghost use Rattle.services.specs.Narrow.{Leaving, createOn, exitOn, exitHeaps};
+ghost use Rattle.services.specs.Narrow.{Leaving, createOn, exitOn, exitHeaps, reportOn};
 use buffers::clear;
 use ideal::BoxRecord;
-use state::Added;
-use state::BoxAnswer;
+use state::Answer;
+use state::Change;
 use state::accepted;
 use state::refuse;
+use state::unedited;
 
 // The bit of a place in the map of taken places.
 fn bit_of(place: u8) -> u16
@@ -18,7 +23,7 @@ fn bit_of(place: u8) -> u16
     1u16 << place
 }
 
-pub fn create(b: BoxRecord, place: u8, identity: u64) -> BoxAnswer
+pub fn create(b: BoxRecord, place: u8, identity: u64) -> Change
     requires { ⌜ b .taken ≡ takenMap (b .identities) ⌝ }
     ensures { λ r. ⌜ r ≡ createOn b place identity ⌝ }
 {
@@ -36,15 +41,11 @@ pub fn create(b: BoxRecord, place: u8, identity: u64) -> BoxAnswer
     let mut next = b;
     next.taken = taken;
     next.identities[p] = identity;
-    BoxAnswer {
-        held: next,
-        added: Added::Nothing,
-        answer: accepted(place as u64),
-    }
+    unedited(next, accepted(place as u64))
 }
 
 // The heap is cleared here, not at the next create.
-pub fn exit_running(b: BoxRecord, heaps: &mut [u8]) -> BoxAnswer
+pub fn exit_running(b: BoxRecord, heaps: &mut [u8]) -> Change
     requires { ⌜ Leaving b (now heaps) ⌝ }
     ensures { λ r. ⌜ r ≡ exitOn b ⌝ }
     ensures { λ r. ⌜ now (heaps .exit) ≡ exitHeaps b (now (heaps .entry)) ⌝ }
@@ -62,9 +63,14 @@ pub fn exit_running(b: BoxRecord, heaps: &mut [u8]) -> BoxAnswer
     next.taken = left;
     next.identities[p] = 0;
     next.running = 16;
-    BoxAnswer {
-        held: next,
-        added: Added::Nothing,
-        answer: accepted(0),
-    }
+    unedited(next, accepted(0))
+}
+
+pub fn report(b: BoxRecord) -> Answer
+    ensures { λ r. ⌜ r ≡ reportOn b ⌝ }
+{
+    let log = b.log;
+    let escrow = b.escrow;
+    let services = u16::count_ones(b.taken);
+    accepted(services as u64 + 256 * (log.rows as u64) + 65536 * (escrow.rows as u64))
 }

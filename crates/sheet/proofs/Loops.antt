@@ -13,7 +13,7 @@ use Rattle.ideal.specs.Step.{refusal, refusedAnswer, refuse, accepted, settle, 
 use Rattle.ideal.specs.Tables.{Tables, stateOf, freshTables}
 use Rattle.ideal.specs.Box.{Result, laid, callOn}
 use Rattle.ideal.specs.Layouts.{Sound}
-use Rattle.ideal.proofs.Bools.{by-cases, clash}
+use Rattle.lists.proofs.Bools.{by-cases, clash}
 use Rattle.ideal.proofs.Laid.{stays-sound, fresh-box}
 use Rattle.sheet.specs.Sheet.{stops, called, linesFrom, sheet}
 use Rattle.sheet.specs.Turns.{turn, Loop, nothing-left, stopped, went-on, joined, UsesTwo, UsesWithin, NoneMissing, TurnByTurn, LoopEnds, LoopWritesSheet}

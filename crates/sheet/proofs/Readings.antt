@@ -11,7 +11,7 @@ use lib.Dec.{eqb, ltb}
 use Rattle.record.specs.Call.{Call}
 use Rattle.record.specs.Layout.{Kind, stands, kindOf}
 use Rattle.record.specs.Read.{Reading, refused, whole, cut, unknown, wrongMap, fromLittle, field, contents, bytesField, fields, readFields, readKind, afterMap, read}
-use Rattle.ideal.proofs.Bools.{by-cases}
+use Rattle.lists.proofs.Bools.{by-cases}
 use Rattle.sheet.specs.Sheet.{lastCode}
 
 -- of a record in at most so many bytes

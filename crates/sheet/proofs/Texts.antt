@@ -12,7 +12,7 @@ use lib.Seq.{sets, drop-cons, drop-length}
 use borrow.Author.Tests.{lt-ltb, le-ltb}
 use Rattle.record.proofs.Stores.{sets-append, sets-front}
 use Rattle.ideal.specs.Step.{Answer}
-use Rattle.ideal.proofs.Bools.{by-cases}
+use Rattle.lists.proofs.Bools.{by-cases}
 use Rattle.sheet.specs.Sheet.{bytesOf, digitOf, decimalIn, decimal, hexadecimal, shownText, spaced, line}
 use Rattle.sheet.specs.Stored.{Stored, AtFront}
 

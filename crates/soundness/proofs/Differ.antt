@@ -13,12 +13,12 @@ use Rattle.ideal.specs.State.{Entry, Logged, Escrowed, any, every}
 use Rattle.ideal.specs.Step.{isLogged, hasHandle}
 use Rattle.ideal.specs.Tables.{RowsOf, entryOf, entriesOf}
 use Rattle.ideal.specs.Soundness.{differ, samePair, sameHandle, rightTag}
-use Rattle.ideal.proofs.Bools.{and-left, and-right, and-assoc}
+use Rattle.lists.proofs.Bools.{and-left, and-right, and-assoc}
 use Rattle.ideal.proofs.Facts.{every-both}
 use Rattle.ideal.proofs.Kept.{eqb-comm, same-comm}
-use Rattle.ideal.proofs.Lists.{any-append, any-one}
+use Rattle.lists.proofs.Lists.{any-append, any-one}
 use Rattle.pairs.proofs.Pairs.{pair-logged}
-use Rattle.buffers.proofs.Loops.{one-on}
+use Rattle.lists.proofs.Lists.{one-on}
 use Rattle.soundness.specs.Tests.{differBefore, sameLogged}
 
 not-or : (a b : Bool) → not (a || b) ≡ not a && not b

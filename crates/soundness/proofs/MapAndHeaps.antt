@@ -13,7 +13,7 @@ use lib.Seq.{drop-cons, drop-drop}
 use Rattle.ideal.specs.State.{part}
 use Rattle.ideal.specs.Tables.{takenMap, chunks}
 use Rattle.ideal.specs.Soundness.{allZero, emptyHeapsZero}
-use Rattle.ideal.proofs.Bools.{by-cases}
+use Rattle.lists.proofs.Bools.{by-cases}
 use Rattle.ideal.proofs.Heaps.{chunks-length}
 
 -- ---- the map of taken places

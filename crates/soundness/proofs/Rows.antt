@@ -16,9 +16,9 @@ use Rattle.ideal.specs.declared.EscrowRow.{EscrowRow}
 use Rattle.ideal.specs.State.{Entry, every}
 use Rattle.ideal.specs.Tables.{RowsOf, logTable, escrowTable, entryOf, entriesOf}
 use Rattle.ideal.specs.Soundness.{allZero, chained, short}
-use Rattle.ideal.proofs.Bools.{and-left, and-right, and-true, and-nil, and-assoc}
-use Rattle.ideal.proofs.Facts.{and-swap}
-use Rattle.buffers.proofs.Loops.{joined, one-on}
+use Rattle.lists.proofs.Bools.{and-left, and-right, and-true, and-nil, and-assoc, and-swap}
+use Rattle.lists.proofs.Lists.{one-on}
+use Rattle.buffers.proofs.Loops.{joined}
 use Rattle.soundness.specs.Tests.{rowSound, rowsSound, bytesAndRows, logBits, escrowBits}
 
 -- one element on

@@ -14,7 +14,7 @@ use Rattle.ideal.specs.declared.EscrowRow.{EscrowRow}
 use Rattle.ideal.specs.State.{Entry, every}
 use Rattle.ideal.specs.Tables.{Tables, RowsOf, logTable, escrowTable, takenMap, chunks, entryOf, entriesOf, stateOf}
 use Rattle.ideal.specs.Soundness.{pass, sizesRight, runningTaken, allZero, emptyHeapsZero, chained, short, hasIdentity, hasIdentities, rightTag, carriesLength, sameHandle, soundTests, sound}
-use Rattle.ideal.proofs.Bools.{and-left, and-right, and-true}
+use Rattle.lists.proofs.Bools.{and-left, and-right, and-true}
 use Rattle.ideal.proofs.Table.{Stands}
 use Rattle.ideal.proofs.Facts.{Facts, facts, facts-sound, every-both}
 use Rattle.state.specs.declared.LogTable.{LogTable}

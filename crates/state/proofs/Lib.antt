@@ -1,3 +1,5 @@
-pub mod NoRow
+pub mod Edited
 pub mod Rooms
 pub mod Settled
+pub mod Parts
+pub mod Showing

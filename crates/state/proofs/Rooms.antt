@@ -6,7 +6,7 @@ use native.Mathlib.Omega.{arith}
 use lib.Dec.{eqb}
 use borrow.Author.Tests.{eqb-false, ltb-false}
 use Rattle.ideal.specs.declared.Used.{Used}
-use Rattle.ideal.proofs.Bools.{or-false-left, or-false-right}
+use Rattle.lists.proofs.Bools.{or-false-left, or-false-right}
 use Rattle.state.specs.Counts.{fullBy, Room}
 
 pub has-room : (used : Used) (n : ℕ) → used .rows ≤ 64 → fullBy used n ≡ false → Room used n

@@ -21,6 +21,15 @@ unfolding answered
 refused-answers zero number z = absurd (z refl)
 refused-answers (suc n) number z = refl
 
+-- an answer of a call that reads no record and shows nothing
+abbrev pub ShowsNone : Answer → Type 0
+ShowsNone a = (a .used ≡ 0) × (a .shown ≡ 0)
+
+pub answered-alone : (r n : ℕ) → ShowsNone (answered r n)
+unfolding answered
+answered-alone zero n = (refl, refl)
+answered-alone (suc r) n = (refl, refl)
+
 -- ---- the step of the state, laid out
 
 -- what a call on a part of the box answers, with the bytes used and the bytes shown

@@ -1,3 +1,4 @@
 pub mod Answers
 pub mod Counts
-pub mod NewRow
+pub mod Edits
+pub mod Parts

@@ -1,6 +1,6 @@
 // A fresh box: all zeros with running place 16.
 ghost use mathlib.Core.Path.{_≡_};
-ghost use Rattle.ideal.specs.Tables.{freshTables};
+ghost use Rattle.ideal.specs.Tables.{freshTables, logTable, escrowTable};
 use crate::EscrowTable;
 use crate::LogTable;
 use fnv::Tag;
@@ -24,15 +24,33 @@ pub fn fresh_record() -> BoxRecord
     }
 }
 
-pub fn fresh_log() -> LogTable
-    ensures { λ r. ⌜ r .rows ≡ freshTables .logRows ⌝ }
+pub fn blank_log_row() -> LogRow
+    ensures { λ r. ⌜ r ≡ logTable .blank ⌝ }
 {
-    let row = LogRow {
+    LogRow {
         identity: 0,
         tag: Tag(0),
         first: 0,
         length: 0,
-    };
+    }
+}
+
+pub fn blank_escrow_row() -> EscrowRow
+    ensures { λ r. ⌜ r ≡ escrowTable .blank ⌝ }
+{
+    EscrowRow {
+        source: 0,
+        recipient: 0,
+        handle: Handle(0),
+        first: 0,
+        length: 0,
+    }
+}
+
+pub fn fresh_log() -> LogTable
+    ensures { λ r. ⌜ r .rows ≡ freshTables .logRows ⌝ }
+{
+    let row = blank_log_row();
     let rows = [row; 64];
     LogTable { rows }
 }
@@ -40,13 +58,7 @@ pub fn fresh_log() -> LogTable
 pub fn fresh_escrow() -> EscrowTable
     ensures { λ r. ⌜ r .rows ≡ freshTables .escrowRows ⌝ }
 {
-    let row = EscrowRow {
-        source: 0,
-        recipient: 0,
-        handle: Handle(0),
-        first: 0,
-        length: 0,
-    };
+    let row = blank_escrow_row();
     let rows = [row; 64];
     EscrowTable { rows }
 }

@@ -1,16 +1,20 @@
-// What goes in and comes back by value, a fresh box, whether a table has room, and a table with one row more.
-mod adding;
+// What goes in and comes back by value, a fresh box, whether a table has room, and a table with a row put into it.
+mod editing;
 mod fresh;
 mod full;
 
-pub use adding::escrow_with;
-pub use adding::log_with;
+pub use editing::escrow_edited;
+pub use editing::log_edited;
+pub use editing::no_escrow_edit;
+pub use editing::no_log_edit;
+pub use editing::unedited;
 pub use fresh::fresh_escrow;
 pub use fresh::fresh_log;
 pub use fresh::fresh_record;
 pub use full::is_full;
 ghost use mathlib.Core.Path.{_≡_};
-ghost use Rattle.state.specs.Answers.{refusedWith, refusedBox, acceptedWith};
+ghost use Rattle.state.specs.Answers.{refusedWith, acceptedWith, shownWith};
+ghost use Rattle.state.specs.Edits.{unchanged};
 use ideal::BoxRecord;
 use ideal::EscrowRow;
 use ideal::LogRow;
@@ -23,25 +27,39 @@ pub struct EscrowTable {
     pub rows: [EscrowRow; 64],
 }
 
-// An answer but for the bytes used: shown is how many bytes stand at the front of the output buffer.
+// An answer. used is how many bytes of a record were used, 0 where none was read; shown is how many bytes stand at the front
+// of the output buffer.
+#[repr(C)]
 pub struct Answer {
     pub code: u8,
     pub number: u64,
+    pub used: usize,
     pub shown: u16,
 }
 
-// The row that a call adds to a table, if it adds one. What comes back is this row, and not the table: a table by value is
-// moved whole.
-pub enum Added {
-    Nothing,
-    Log(LogRow),
-    Escrow(EscrowRow),
+// A row that goes into the log at an index, if put says so. What comes back of a table is this, and not the table: a table by
+// value is moved whole.
+pub struct LogEdit {
+    pub put: bool,
+    pub at: usize,
+    pub row: LogRow,
 }
 
-// What a call that may alter the box record or a table gives.
-pub struct BoxAnswer {
+pub struct EscrowEdit {
+    pub put: bool,
+    pub at: usize,
+    pub row: EscrowRow,
+}
+
+pub struct Edits {
+    pub log: LogEdit,
+    pub escrow: EscrowEdit,
+}
+
+// What a call makes of the box record and of the tables, and its answer.
+pub struct Change {
     pub held: BoxRecord,
-    pub added: Added,
+    pub edits: Edits,
     pub answer: Answer,
 }
 
@@ -51,18 +69,8 @@ pub fn refused(code: u8) -> Answer
     Answer {
         code,
         number: 0,
+        used: 0,
         shown: 0,
-    }
-}
-
-// A refusal leaves the box record, and adds no row.
-pub fn refuse(b: BoxRecord, code: u8) -> BoxAnswer
-    ensures { λ r. ⌜ r ≡ refusedBox b code ⌝ }
-{
-    BoxAnswer {
-        held: b,
-        added: Added::Nothing,
-        answer: refused(code),
     }
 }
 
@@ -72,6 +80,23 @@ pub fn accepted(number: u64) -> Answer
     Answer {
         code: 0,
         number,
+        used: 0,
         shown: 0,
     }
+}
+
+// Of a call that shows size bytes.
+pub fn shown(size: u16) -> Answer
+    ensures { λ r. ⌜ r ≡ shownWith size ⌝ }
+{
+    let mut answer = accepted(size as u64);
+    answer.shown = size;
+    answer
+}
+
+// A refusal leaves the box record, and puts no row.
+pub fn refuse(b: BoxRecord, code: u8) -> Change
+    ensures { λ r. ⌜ r ≡ unchanged b (refusedWith code) ⌝ }
+{
+    unedited(b, refused(code))
 }

@@ -13,19 +13,15 @@ use Rattle.calls.specs.Entry.{EntryResult, resultOn, soundOn}
 use Rattle.sheet.specs.Sheet.{line, lastCode, stops, called}
 use Rattle.sheet.specs.Stored.{AtFront}
 use Rattle.sheet.specs.Turns.{turn}
-use Rattle.turns.specs.Next.{TurnMade}
-
--- the answer, its shown bytes read from the output buffer
-abbrev pub answerOf : EntryResult → Answer
-answerOf x = record { code = x .code; number = x .number; used = x .used; shown = take (x .shown) (x .output) }
+use Rattle.turns.specs.Next.{answerIn, TurnMade}
 
 module _ (x : EntryResult) (t : Tables) (rest output : List ℕ) (e : x ≡ soundOn t rest output) where
-  pub shown-fits : x .shown ≤ length (x .output)
+  pub shown-fits : x .answer .shown ≤ length (x .output)
   unfolding soundOn resultOn outputAfter
   shown-fits =
-      omega (arith, ap (λ (y : EntryResult). y .shown) e, simp length-append at (ap (λ (y : EntryResult). length (y .output)) e))
+      omega (arith, ap (λ (y : EntryResult). y .answer .shown) e, simp length-append at (ap (λ (y : EntryResult). length (y .output)) e))
 
-  answer-called : Sound t 1024 → answerOf x ≡ called t rest .answer
+  answer-called : Sound t 1024 → answerIn (x .answer) (x .output) ≡ called t rest .answer
   unfolding soundOn resultOn outputAfter called callOn
   answer-called h = rw (e, h .sizes, h .box, take-at)
 
@@ -34,12 +30,12 @@ module _ (x : EntryResult) (t : Tables) (rest output : List ℕ) (e : x ≡ soun
   tables-called h = rw (e, h .sizes, h .box)
 
   -- the line of the answer stands at the front of a buffer
-  pub turn-called : {before after : List ℕ} {size : ℕ} → Sound t 1024 → AtFront (line (answerOf x)) before after size
-      → TurnMade (record { tables = x .tables; text = take size after; used = x .used; last = lastCode (x .code) }) (turn t rest) before after size
+  pub turn-called : {before after : List ℕ} {size : ℕ} → Sound t 1024 → AtFront (line (answerIn (x .answer) (x .output))) before after size
+      → TurnMade (record { tables = x .tables; text = take size after; used = x .answer .used; last = lastCode (x .answer .code) }) (turn t rest) before after size
   unfolding turn stops
   turn-called {before} {after} {size} h f =
       let answer = answer-called h in
-      let text : take size after ≡ line (answerOf x) = rw (f .bytes) (take-at (line (answerOf x)) (drop size before) size (sym (f .count))) in
+      let text : take size after ≡ line (answerIn (x .answer) (x .output)) = rw (f .bytes) (take-at (line (answerIn (x .answer) (x .output))) (drop size before) size (sym (f .count))) in
       record {
         same = cc (text, tables-called h, answer, ap (λ (a : Answer). a .used) answer, ap (λ (a : Answer). a .code) answer);
         front = subst (λ (a : Answer). AtFront (line a) before after size) answer f;

@@ -11,7 +11,7 @@ use lib.Seq.{take-length, drop-length, drop-drop, length-take-le, take-append-ad
 use borrow.Author.Tests.{lt-ltb, le-ltb}
 use Rattle.ideal.specs.Tables.{Tables}
 use Rattle.ideal.specs.Layouts.{Sound}
-use Rattle.ideal.proofs.Bools.{clash}
+use Rattle.lists.proofs.Bools.{clash}
 use Rattle.sheet.specs.Stored.{AtFront}
 use Rattle.sheet.specs.Turns.{Turn, turn}
 use Rattle.sheet.proofs.Loops.{uses, within, called-sound, shorter, turn-by-turn}

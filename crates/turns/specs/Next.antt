@@ -5,12 +5,13 @@ use mathlib.Core.Bool.{false, cond}
 use mathlib.Core.List.{List, [], _∷_, _++_}
 use lib.ListN.{length, take, drop}
 use lib.Dec.{ltb}
-use Rattle.ideal.specs.declared.BoxRecord.{BoxRecord}
+use Rattle.ideal.specs.Step.{Answer as StepAnswer}
 use Rattle.ideal.specs.Tables.{Tables}
 use Rattle.ideal.specs.Layouts.{Sound}
 use Rattle.state.specs.declared.LogTable.{LogTable}
 use Rattle.state.specs.declared.EscrowTable.{EscrowTable}
-use Rattle.state.specs.NewRow.{logWith, escrowWith}
+use Rattle.state.specs.declared.Answer.{Answer}
+use Rattle.state.specs.Edits.{logWith, escrowWith}
 use Rattle.soundness.specs.Parts.{tablesOf}
 use Rattle.turns.specs.declared.NextLine.{NextLine}
 use Rattle.turns.specs.declared.Lines.{Lines}
@@ -18,11 +19,16 @@ use Rattle.sheet.specs.Sheet.{linesFrom}
 use Rattle.sheet.specs.Stored.{AtFront}
 use Rattle.sheet.specs.Turns.{Turn, turn}
 
--- of the box record and the tables that came in: the row that the call adds goes into them
-abbrev pub turnOf : BoxRecord → LogTable → EscrowTable → NextLine → (heaps shared logValues escrowValues out : List ℕ) → Turn
-turnOf b log escrow r heaps shared logValues escrowValues out =
+-- the answer whose shown bytes stand at the front of the output buffer
+abbrev pub answerIn : Answer → (output : List ℕ) → StepAnswer
+answerIn a output = record { code = a .code; number = a .number; used = a .used; shown = take (a .shown) output }
+
+-- of the tables that came in: the row that the call puts goes into them
+abbrev pub turnOf : LogTable → EscrowTable → NextLine → (heaps shared logValues escrowValues out : List ℕ) → Turn
+turnOf log escrow r heaps shared logValues escrowValues out =
     record {
-      tables = tablesOf (r .held) (logWith b (r .added) log) (escrowWith b (r .added) escrow) heaps shared logValues escrowValues;
+      tables =
+          tablesOf (r .held) (logWith (r .edits .log) log) (escrowWith (r .edits .escrow) escrow) heaps shared logValues escrowValues;
       text = take (r .size) out;
       used = r .used;
       last = r .last;

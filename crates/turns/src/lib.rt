@@ -1,27 +1,28 @@
 // The records of a script, run on a sound box, and their lines.
 ghost use Prim.Native.Nat.{_+_, _*_, _≤_};
-ghost use lib.ListN.{length, take};
+ghost use lib.ListN.{length};
 ghost use Rattle.ideal.specs.Layouts.{Sound};
-ghost use Rattle.state.specs.NewRow.{RowAdded};
+ghost use Rattle.state.specs.Edits.{EditsBy};
 ghost use Rattle.soundness.specs.Parts.{tablesOf};
 ghost use Rattle.sheet.specs.Sheet.{line};
 ghost use Rattle.sheet.specs.Stored.{AtFront};
 ghost use Rattle.sheet.specs.Turns.{turn};
-ghost use Rattle.turns.specs.Next.{turnOf, turnsOf, TurnMade, turns};
+ghost use Rattle.turns.specs.Next.{answerIn, turnOf, turnsOf, TurnMade, turns};
 use ideal::BoxRecord;
 use sheet::is_last;
 use sheet::write_line;
-use state::Added;
+use state::Answer;
+use state::Edits;
 use state::EscrowTable;
 use state::LogTable;
-use state::escrow_with;
-use state::log_with;
+use state::escrow_edited;
+use state::log_edited;
 
-// What a turn gives: the box record, the row that the call adds, the bytes used, how many bytes the line has, and whether
+// What a turn gives: the box record, the row that the call puts, the bytes used, how many bytes the line has, and whether
 // its code is 1, 2 or 3, after which no other line comes.
 pub struct NextLine {
     pub held: BoxRecord,
-    pub added: Added,
+    pub edits: Edits,
     pub used: usize,
     pub size: usize,
     pub last: bool,
@@ -38,22 +39,12 @@ pub struct Lines {
 }
 
 // The line of an answer whose shown bytes stand at the front of the output buffer.
-fn write_answer(
-    code: u8,
-    number: u64,
-    used: usize,
-    shown: u16,
-    output: &[u8],
-    out: &mut [u8],
-) -> usize
-    requires { ⌜ (shown ≤ length (now output)) × (65 + 2 * shown ≤ length (now out)) ⌝ }
-    ensures { λ r. ⌜
-        AtFront (line (record { code = code; number = number; used = used; shown = take shown (now (output .entry)) }))
-        (now (out .entry)) (now (out .exit)) r
-        ⌝ }
+fn write_answer(answer: Answer, output: &[u8], out: &mut [u8]) -> usize
+    requires { ⌜ (answer .shown ≤ length (now output)) × (65 + 2 * answer .shown ≤ length (now out)) ⌝ }
+    ensures { λ r. ⌜ AtFront (line (answerIn answer (now (output .entry)))) (now (out .entry)) (now (out .exit)) r ⌝ }
 {
-    let n = shown as usize;
-    write_line(code, number, used, &output[..n], out)
+    let n = answer.shown as usize;
+    write_line(answer.code, answer.number, answer.used, &output[..n], out)
 }
 
 // The record at the front of rest on a sound box, and its line at the front of out. A line has at most 2,113 bytes.
@@ -74,12 +65,12 @@ pub fn next_line(
         ⌝ }
     ensures { λ r. ⌜
         TurnMade
-        (turnOf b log escrow r (now (heaps .exit)) (now (shared .exit)) (now («log_values» .exit)) (now («escrow_values» .exit)) (now (out .exit)))
+        (turnOf log escrow r (now (heaps .exit)) (now (shared .exit)) (now («log_values» .exit)) (now («escrow_values» .exit)) (now (out .exit)))
         (turn (tablesOf b log escrow (now (heaps .entry)) (now (shared .entry)) (now («log_values» .entry)) (now («escrow_values» .entry)))
         (now (rest .entry)))
         (now (out .entry)) (now (out .exit)) (r .size)
         ⌝ }
-    ensures { λ r. ⌜ RowAdded b (r .held) (r .added) ⌝ }
+    ensures { λ r. ⌜ EditsBy b (r .held) (r .edits) ⌝ }
 {
     let mut output = [0u8; 1024];
     let change = calls::call_sound(
@@ -93,22 +84,16 @@ pub fn next_line(
         &mut output,
         rest,
     );
-    let size = write_answer(
-        change.code,
-        change.number,
-        change.used,
-        change.shown,
-        &output,
-        out,
-    );
+    let answer = change.answer;
+    let size = write_answer(answer, &output, out);
     let held = change.held;
-    let added = change.added;
+    let edits = change.edits;
     NextLine {
         held,
-        added,
-        used: change.used,
+        edits,
+        used: answer.used,
         size,
-        last: is_last(change.code),
+        last: is_last(answer.code),
     }
 }
 
@@ -156,9 +141,9 @@ pub fn next_lines(
             &rest[used..],
             &mut out[size..],
         );
-        let added = next.added;
-        log = log_with(b, log, added);
-        escrow = escrow_with(b, escrow, added);
+        let edits = next.edits;
+        log = log_edited(log, edits.log);
+        escrow = escrow_edited(escrow, edits.escrow);
         b = next.held;
         used += next.used;
         size += next.size;

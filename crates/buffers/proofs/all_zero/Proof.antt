@@ -4,7 +4,7 @@ use native.Mathlib.Omega.{arith}
 use lib.ListN.{length, drop}
 use borrow.Author.Tests.{not-true, not-false}
 use borrow.Author.Needs.{needs}
-use Rattle.ideal.specs.Soundness.{allZero}
+use Rattle.lists.specs.Lists.{allZero}
 use Rattle.buffers.proofs.Loops.{part-step, to-end}
 use Rattle.buffers.proofs.all_zero.Statement.{statement}
 use Rattle.buffers.proofs.all_zero.Tie as tie

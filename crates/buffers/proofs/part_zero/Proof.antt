@@ -5,9 +5,8 @@ use native.Mathlib.Omega.{arith}
 use lib.Dec.{eqb}
 use lib.ListN.{length, drop}
 use lib.Seq.{drop-length}
-use Rattle.ideal.specs.State.{every}
-use Rattle.ideal.specs.Soundness.{allZero}
-use Rattle.ideal.proofs.Bools.{and-assoc, and-nil}
+use Rattle.lists.specs.Lists.{every, allZero}
+use Rattle.lists.proofs.Bools.{and-assoc, and-nil}
 use Rattle.buffers.proofs.Loops.{joined, zero-step}
 use Rattle.buffers.proofs.part_zero.Statement.{statement}
 use Rattle.buffers.proofs.part_zero.Tie as tie

@@ -4,7 +4,7 @@ use native.Mathlib.Omega.{arith}
 use lib.ListN.{length, drop}
 use lib.Seq.{drop-length}
 use borrow.Author.Tests.{eq-eqb, ne-eqb}
-use Rattle.ideal.specs.State.{sameBytes}
+use Rattle.lists.specs.Lists.{sameBytes}
 use Rattle.buffers.proofs.Loops.{same-step, lengths-differ}
 use Rattle.buffers.proofs.same.Statement.{statement}
 use Rattle.buffers.proofs.same.Tie as tie

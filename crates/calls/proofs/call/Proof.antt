@@ -1,13 +1,15 @@
+use mathlib.Core.Path.{sym, _∙_}
+use borrow.Author.Tests.{not-true, not-false}
+use Rattle.calls.proofs.Whole.{nothing-put, refused-entry, sound-entry, ready-sound}
 use borrow.Author.Needs.{needs}
-use Rattle.state.proofs.NoRow.{added-fits}
 use Rattle.calls.proofs.call.Statement.{statement}
 use Rattle.calls.proofs.call.Tie as tie
 
-call-change-requires : tie.Need-call-change-requires
-call-change-requires c κs = search needs
+is-ready-requires : tie.Need-is-ready-requires
+is-ready-requires c κs = search needs
 
-reply-of-requires : tie.Need-reply-of-requires
-reply-of-requires c κs = added-fits _ _ _ (c .before .before .before .before .before .before .before .before .before .before .call-change .ensures .1)
+refuse-requires : tie.Need-refuse-requires
+refuse-requires c κs = search needs
 
 same-length : tie.Need-same-length
 same-length c = search needs
@@ -25,17 +27,45 @@ same-length-5 : tie.Need-same-length-5
 same-length-5 c = search needs
 
 returns : tie.Need-returns
-returns c = rw (c .reply-of .ensures) (c .before .before .before .before .before .before .before .before .before .before .before .call-change .ensures .0)
+returns c = nothing-put (c .refuse .ensures) (refused-entry _ _ _ (sym (c .before .before .is-ready .ensures) ∙ not-true _ (c .before .if1 .taken)))
+
+call-sound-requires : tie.Need-call-sound-requires
+call-sound-requires c κs = ready-sound _ _ (sym (c .before .before .before .before .before .before .is-ready .ensures) ∙ not-false _ (c .before .before .before .before .before .if1 .left))
+
+same-length-6 : tie.Need-same-length-6
+same-length-6 c = search needs
+
+same-length-7 : tie.Need-same-length-7
+same-length-7 c = search needs
+
+same-length-8 : tie.Need-same-length-8
+same-length-8 c = search needs
+
+same-length-9 : tie.Need-same-length-9
+same-length-9 c = search needs
+
+same-length-10 : tie.Need-same-length-10
+same-length-10 c = search needs
+
+returns-2 : tie.Need-returns-2
+returns-2 c = let called = c .before .before .before .before .before .before .before .before .before .before .call-sound .ensures in (called .0 ∙ sound-entry _ _ _ (sym (c .before .before .before .before .before .before .before .before .before .before .before .before .before .before .before .before .before .is-ready .ensures) ∙ not-false _ (c .before .before .before .before .before .before .before .before .before .before .before .before .before .before .before .before .if1 .left)), called .1)
 
 pub call-spec : {M : Type 1} → statement M
 call-spec =
     tie.close
     (tie.spec
-    call-change-requires
-    reply-of-requires
+    is-ready-requires
+    refuse-requires
     same-length
     same-length-2
     same-length-3
     same-length-4
     same-length-5
-    returns)
+    returns
+    call-sound-requires
+    same-length-6
+    same-length-7
+    same-length-8
+    same-length-9
+    same-length-10
+    returns-2)

@@ -1,8 +1,8 @@
-use Rattle.calls.proofs.Whole.{nothing-changed, whole-read, refused-read}
-use Rattle.ideal.specs.Step.{onReading}
+use mathlib.Core.Path.{sym}
 use Rattle.record.specs.Meaning.{Within, readingIn}
 use Rattle.record.specs.Read.{cut, unknown, wrongMap}
-use mathlib.Core.Path.{sym, _∙_}
+use Rattle.ideal.specs.Step.{onReading}
+use Rattle.calls.proofs.Whole.{nothing-put, with-used, whole-read, refused-read}
 use borrow.Author.Needs.{needs}
 use Rattle.calls.proofs.call_sound.Statement.{statement}
 use Rattle.calls.proofs.call_sound.Tie as tie
@@ -15,28 +15,28 @@ enum-known-call c = search needs
 
 carry-out-requires : tie.Need-carry-out-requires
 unfolding Within
-carry-out-requires c κs = (
-  c .before .before .before .before .before .before .before .before .before .before .before .before .before .before .before .pre,
-  (rw (c .before .before .before .before .before .before .call .given .1) at (c .before .before .before .before .before .before .before .before .read-call .ensures .1)) .0,
-)
+carry-out-requires c κs = (c .before .before .before .before .before .before .before .before .before .before .before .before .before .before .before .pre, (rw (c .before .before .before .before .before .before .call .given .1) at (c .before .before .before .before .before .before .before .before .read-call .ensures .1)) .0)
+
+with-used-requires : tie.Need-with-used-requires
+with-used-requires c κs = search needs
 
 enum-told : tie.Need-enum-told
 enum-told c = search needs
 
-change-refusal-requires : tie.Need-change-refusal-requires
-change-refusal-requires c κs = search needs
+refuse-requires : tie.Need-refuse-requires
+refuse-requires c κs = search needs
 
 enum-told-2 : tie.Need-enum-told-2
 enum-told-2 c = search needs
 
-change-refusal-requires-2 : tie.Need-change-refusal-requires-2
-change-refusal-requires-2 c κs = search needs
+refuse-requires-2 : tie.Need-refuse-requires-2
+refuse-requires-2 c κs = search needs
 
 enum-told-3 : tie.Need-enum-told-3
 enum-told-3 c = search needs
 
-change-refusal-requires-3 : tie.Need-change-refusal-requires-3
-change-refusal-requires-3 c κs = search needs
+refuse-requires-3 : tie.Need-refuse-requires-3
+refuse-requires-3 c κs = search needs
 
 same-length : tie.Need-same-length
 same-length c = search needs
@@ -54,35 +54,19 @@ same-length-5 : tie.Need-same-length-5
 same-length-5 c = search needs
 
 returns : tie.Need-returns
-returns c =
-    let carried = c .before .before .before .before .before .before .before .before .before .before .carry-out .ensures in
-    let found = c .before .before .before .before .before .before .before .before .before .before .before .before .before .before .before .before .before .before .before .read-call .ensures .0 in (
-      carried .0
-          ∙ whole-read _ _ _ _ found _ _
-          (c .before .before .before .before .before .before .before .before .before .before .before .before .before .before .before .before .before .call .given .1),
-      carried .1,
-    )
+returns c = let carried = c .before .before .before .before .before .before .before .before .before .before .before .carry-out .ensures in with-used (c .before .before .before .before .before .before .before .before .before .before .before .before .before .before .before .before .before .before .before .before .before .before .before .before .before .before .before .args .log) (c .before .before .before .before .before .before .before .before .before .before .before .before .before .before .before .before .before .before .before .before .before .before .before .before .before .before .before .args .escrow) (c .with-used .ensures) (carried .0) (carried .1) (whole-read _ _ _ _ (c .before .before .before .before .before .before .before .before .before .before .before .before .before .before .before .before .before .before .before .before .read-call .ensures .0) _ _ (c .before .before .before .before .before .before .before .before .before .before .before .before .before .before .before .before .before .before .call .given .1))
 
 returns-2 : tie.Need-returns-2
 unfolding readingIn cut
-returns-2 c =
-    nothing-changed (c .change-refusal .ensures)
-    (refused-read (c .before .before .before .before .before .before .before .before .before .before .pre) _ _ 1 0
-    (rw (c .before .enum-told .given .1) at (sym (c .before .before .before .read-call .ensures .0))))
+returns-2 c = nothing-put (c .refuse .ensures) (refused-read (c .before .before .before .before .before .before .before .before .before .before .pre) _ _ 1 (rw (c .before .enum-told .given .1) at (sym (c .before .before .before .read-call .ensures .0))))
 
 returns-3 : tie.Need-returns-3
 unfolding readingIn unknown
-returns-3 c =
-    nothing-changed (c .change-refusal2 .ensures)
-    (refused-read (c .before .before .before .before .before .before .before .before .before .before .pre) _ _ 2 0
-    (rw (c .before .enum-told2 .given .1) at (sym (c .before .before .before .read-call .ensures .0))))
+returns-3 c = nothing-put (c .refuse2 .ensures) (refused-read (c .before .before .before .before .before .before .before .before .before .before .pre) _ _ 2 (rw (c .before .enum-told2 .given .1) at (sym (c .before .before .before .read-call .ensures .0))))
 
 returns-4 : tie.Need-returns-4
 unfolding readingIn wrongMap
-returns-4 c =
-    nothing-changed (c .change-refusal3 .ensures)
-    (refused-read (c .before .before .before .before .before .before .before .before .before .before .pre) _ _ 3 0
-    (rw (c .before .enum-told3 .given .1) at (sym (c .before .before .before .read-call .ensures .0))))
+returns-4 c = nothing-put (c .refuse3 .ensures) (refused-read (c .before .before .before .before .before .before .before .before .before .before .pre) _ _ 3 (rw (c .before .enum-told3 .given .1) at (sym (c .before .before .before .read-call .ensures .0))))
 
 pub call-sound-spec : {M : Type 1} → statement M
 call-sound-spec =
@@ -91,12 +75,13 @@ call-sound-spec =
     read-call-requires
     enum-known-call
     carry-out-requires
+    with-used-requires
     enum-told
-    change-refusal-requires
+    refuse-requires
     enum-told-2
-    change-refusal-requires-2
+    refuse-requires-2
     enum-told-3
-    change-refusal-requires-3
+    refuse-requires-3
     same-length
     same-length-2
     same-length-3

@@ -12,11 +12,17 @@ cast-put c = search needs
 put-requires : tie.Need-put-requires
 put-requires c κs = search needs
 
-add-t16 : tie.Need-add-t16
-add-t16 c = search needs
+add-t18 : tie.Need-add-t18
+add-t18 c = search needs
 
-add-t17 : tie.Need-add-t17
-add-t17 c = search needs
+add-t19 : tie.Need-add-t19
+add-t19 c = search needs
+
+cast-t14 : tie.Need-cast-t14
+cast-t14 c = search needs
+
+no-log-edit-requires : tie.Need-no-log-edit-requires
+no-log-edit-requires c κs = search needs
 
 accepted-requires : tie.Need-accepted-requires
 accepted-requires c κs = search needs
@@ -26,8 +32,7 @@ same-length c = search needs
 
 returns : tie.Need-returns
 unfolding moreEscrow
-returns c =
-    rw (c .before .before .before .before .before .put .ensures, c .accepted .ensures)
+returns c = rw (c .before .before .before .before .before .before .before .put .ensures, c .before .no-log-edit .ensures, c .accepted .ensures)
 
 pub escrow-more-spec : {M : Type 1} → statement M
 escrow-more-spec =
@@ -36,8 +41,10 @@ escrow-more-spec =
     cast-size
     cast-put
     put-requires
-    add-t16
-    add-t17
+    add-t18
+    add-t19
+    cast-t14
+    no-log-edit-requires
     accepted-requires
     same-length
     returns)

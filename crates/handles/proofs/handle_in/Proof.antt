@@ -8,7 +8,7 @@ use borrow.Author.Tests.{eq-eqb, ne-eqb}
 use Rattle.ideal.specs.State.{any}
 use Rattle.ideal.specs.Tables.{escrowTable}
 use Rattle.handles.specs.Rows.{rowHas}
-use Rattle.buffers.proofs.Loops.{one-on}
+use Rattle.lists.proofs.Lists.{one-on}
 use Rattle.handles.proofs.handle_in.Statement.{statement}
 use Rattle.handles.proofs.handle_in.Tie as tie
 

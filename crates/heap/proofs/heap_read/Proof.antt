@@ -1,9 +1,8 @@
 use mathlib.Core.Path.{sym, _∙_}
 use native.Mathlib.Omega.{arith}
 use borrow.Author.Needs.{needs}
-use Rattle.state.specs.Answers.{settled}
+use Rattle.state.specs.Answers.{settled, showed}
 use Rattle.state.proofs.Settled.{refused-leaves}
-use Rattle.shared.specs.Narrow.{showed}
 use Rattle.heap.specs.Narrow.{heapReadAnswer, heapReadOutput}
 use Rattle.heap.proofs.Ranges.{heap-fits}
 use Rattle.heap.proofs.heap_read.Statement.{statement}
@@ -30,14 +29,17 @@ show-requires c κs =
     let f = heap-fits _ _ _ _ (sym (c .before .before .before .heap-refusal .ensures) ∙ c .before .before .if1 .left) in
     (omega (arith, c .heap-byte .ensures, c .before .before .before .before .before .before .pre), omega (arith, c .before .before .before .before .before .before .pre))
 
+shown-requires : tie.Need-shown-requires
+shown-requires c κs = search needs
+
 same-length : tie.Need-same-length
 same-length c = search needs
 
 returns-2 : tie.Need-returns-2
 unfolding heapReadAnswer heapReadOutput showed settled
 returns-2 c =
-    let z = sym (c .before .before .before .before .before .before .heap-refusal .ensures) ∙ c .before .before .before .before .before .if1 .left in
-    (rw z (c .before .before .show .ensures .0), rw (z, ← c .before .before .before .heap-byte .ensures) (c .before .before .show .ensures .1))
+    let z = sym (c .before .before .before .before .before .before .before .heap-refusal .ensures) ∙ c .before .before .before .before .before .before .if1 .left in
+    (rw z (c .shown .ensures), rw (z, ← c .before .before .before .before .heap-byte .ensures) (c .before .before .before .show .ensures))
 
 pub heap-read-spec : {M : Type 1} → statement M
 heap-read-spec =
@@ -48,5 +50,6 @@ heap-read-spec =
     returns
     heap-byte-requires
     show-requires
+    shown-requires
     same-length
     returns-2)

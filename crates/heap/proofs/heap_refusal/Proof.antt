@@ -1,7 +1,7 @@
+use mathlib.Core.Path.{sym, _∙_}
 use borrow.Author.Tests.{eq-eqb, ne-eqb, lt-ltb, le-ltb}
 use borrow.Author.Needs.{needs}
-use Rattle.ideal.specs.Step.{first}
-use Rattle.shared.specs.Narrow.{rangeRefusal}
+use Rattle.ideal.specs.Step.{first, beyond}
 use Rattle.heap.specs.Narrow.{heapRefusal}
 use Rattle.heap.proofs.heap_refusal.Statement.{statement}
 use Rattle.heap.proofs.heap_refusal.Tie as tie
@@ -21,14 +21,21 @@ unfolding heapRefusal first
 returns-3 c =
     rw (ne-eqb _ _ (c .before .before .if1 .left), le-ltb _ _ (c .before .if2 .left), ne-eqb _ _ (c .if3 .taken))
 
-range-refusal-requires : tie.Need-range-refusal-requires
-range-refusal-requires c κs = search needs
+beyond-requires : tie.Need-beyond-requires
+beyond-requires c κs = search needs
 
 returns-4 : tie.Need-returns-4
-unfolding heapRefusal rangeRefusal first
+unfolding heapRefusal beyond first
 returns-4 c =
-    rw (ne-eqb _ _ (c .before .before .before .if1 .left), le-ltb _ _ (c .before .before .if2 .left), eq-eqb _ _ (c .before .if3 .left)) (c .range-refusal .ensures)
+    let k = c .before .before in
+    rw (ne-eqb _ _ (k .before .before .if1 .left), le-ltb _ _ (k .before .if2 .left), eq-eqb _ _ (k .if3 .left), sym (c .before .beyond .ensures) ∙ c .if4 .taken)
+
+returns-5 : tie.Need-returns-5
+unfolding heapRefusal beyond first
+returns-5 c =
+    let k = c .before .before in
+    rw (ne-eqb _ _ (k .before .before .if1 .left), le-ltb _ _ (k .before .if2 .left), eq-eqb _ _ (k .if3 .left), sym (c .before .beyond .ensures) ∙ c .if4 .left)
 
 pub heap-refusal-spec : {M : Type 1} → statement M
 heap-refusal-spec =
-    tie.close (tie.spec returns returns-2 returns-3 range-refusal-requires returns-4)
+    tie.close (tie.spec returns returns-2 returns-3 beyond-requires returns-4 returns-5)

@@ -16,13 +16,16 @@ in-log-requires c κs = search needs
 accepted-requires : tie.Need-accepted-requires
 accepted-requires c κs = search needs
 
+unedited-requires : tie.Need-unedited-requires
+unedited-requires c κs = search needs
+
 same-length : tie.Need-same-length
 same-length c = search needs
 
 returns : tie.Need-returns
 unfolding attestValue attested first settled
 returns c =
-    simp (sym (c .before .before .in-log .ensures) ∙ c .before .if1 .taken, c .accepted .ensures)
+    simp (sym (c .before .before .before .in-log .ensures) ∙ c .before .before .if1 .taken, c .unedited .ensures, c .before .accepted .ensures)
 
 is-full-requires : tie.Need-is-full-requires
 is-full-requires c κs = search needs
@@ -66,6 +69,7 @@ attest-value-spec =
     cast-in-log
     in-log-requires
     accepted-requires
+    unedited-requires
     same-length
     returns
     is-full-requires

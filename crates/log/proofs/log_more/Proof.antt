@@ -12,11 +12,17 @@ cast-put c = search needs
 put-requires : tie.Need-put-requires
 put-requires c κs = search needs
 
-add-t15 : tie.Need-add-t15
-add-t15 c = search needs
+add-t17 : tie.Need-add-t17
+add-t17 c = search needs
 
-add-t16 : tie.Need-add-t16
-add-t16 c = search needs
+add-t18 : tie.Need-add-t18
+add-t18 c = search needs
+
+cast-t13 : tie.Need-cast-t13
+cast-t13 c = search needs
+
+no-escrow-edit-requires : tie.Need-no-escrow-edit-requires
+no-escrow-edit-requires c κs = search needs
 
 accepted-requires : tie.Need-accepted-requires
 accepted-requires c κs = search needs
@@ -26,8 +32,7 @@ same-length c = search needs
 
 returns : tie.Need-returns
 unfolding moreLog
-returns c =
-    rw (c .before .before .before .before .before .put .ensures, c .accepted .ensures)
+returns c = rw (c .before .before .before .before .before .before .before .put .ensures, c .before .no-escrow-edit .ensures, c .accepted .ensures)
 
 pub log-more-spec : {M : Type 1} → statement M
 log-more-spec =
@@ -36,8 +41,10 @@ log-more-spec =
     cast-size
     cast-put
     put-requires
-    add-t15
-    add-t16
+    add-t17
+    add-t18
+    cast-t13
+    no-escrow-edit-requires
     accepted-requires
     same-length
     returns)

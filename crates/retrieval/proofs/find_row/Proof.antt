@@ -9,7 +9,7 @@ use Rattle.ideal.specs.State.{find}
 use Rattle.ideal.specs.Step.{isEscrowed}
 use Rattle.ideal.specs.Tables.{escrowTable, entriesOf}
 use Rattle.retrieval.specs.Search.{entryFound, sought, Within}
-use Rattle.buffers.proofs.Loops.{one-on}
+use Rattle.lists.proofs.Lists.{one-on}
 use Rattle.retrieval.proofs.find_row.Statement.{statement}
 use Rattle.retrieval.proofs.find_row.Tie as tie
 

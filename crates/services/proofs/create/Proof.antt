@@ -1,7 +1,7 @@
 use Prim.Native.Nat.{_<_}
-use mathlib.Core.Path.{_≡_}
+use mathlib.Core.Path.{_≡_, sym, _∙_}
 use native.Mathlib.Omega.{arith}
-use lib.ListN.{length}
+use lib.ListN.{length, length-map}
 use borrow.Author.Needs.{needs}
 use borrow.Author.Tests.{eq-eqb, ne-eqb, lt-ltb, le-ltb}
 use Rattle.ideal.specs.Step.{first}
@@ -62,21 +62,25 @@ element-write-next c = search needs
 accepted-requires : tie.Need-accepted-requires
 accepted-requires c κs = search needs
 
+unedited-requires : tie.Need-unedited-requires
+unedited-requires c κs = search needs
+
 returns-4 : tie.Need-returns-4
 unfolding createOn first settled answered
 returns-4 c =
-    let x = c .before .before .before .before .before .before .args in
-    let n : length (x .t1 .identities) ≡ 16 = search needs in
-    let h : x .place < length (x .t1 .identities) = omega (arith, c .before .before .before .before .before .if1 .left) in
-    let m = map-taken (x .t1 .identities) (x .place) (x .identity) h (c .before .before .before .if2 .left) (c .before .before .if3 .left) in
+    let x = c .before .before .before .before .before .before .before .args in
+    let n : length (x .t1 .identities) ≡ 16 = sym (length-map (x .t1 .identities) (λ v. v)) ∙ c .before .before .before .before .before .before .before .good .0 .1 .1 .1 .1 .0 .1 .0 .1 in
+    let h : x .place < length (x .t1 .identities) = omega (arith, c .before .before .before .before .before .before .if1 .left) in
+    let m = map-taken (x .t1 .identities) (x .place) (x .identity) h (c .before .before .before .before .if2 .left) (c .before .before .before .if3 .left) in
     rw (
-      c .accepted .ensures,
-      c .before .bit-of .ensures,
-      c .before .before .before .before .before .before .pre,
+      c .unedited .ensures,
+      c .before .accepted .ensures,
+      c .before .before .bit-of .ensures,
+      c .before .before .before .before .before .before .before .pre,
       ← m,
-      le-ltb _ _ (c .before .before .before .before .before .if1 .left),
-      eq-eqb _ _ (c .before .before .before .if2 .left),
-      ne-eqb _ _ (c .before .before .if3 .left),
+      le-ltb _ _ (c .before .before .before .before .before .before .if1 .left),
+      eq-eqb _ _ (c .before .before .before .before .if2 .left),
+      ne-eqb _ _ (c .before .before .before .if3 .left),
     )
 
 pub create-spec : {M : Type 1} → statement M
@@ -96,4 +100,5 @@ create-spec =
     mul-next
     element-write-next
     accepted-requires
+    unedited-requires
     returns-4)

@@ -1,9 +1,9 @@
 use Prim.Native.Nat.{ℕ, _+_, _*_, _-_, _^_, _≤_, _<_}
-use mathlib.Core.Path.{_≡_}
+use mathlib.Core.Path.{_≡_, sym, _∙_}
 use mathlib.Core.List.{List}
 use native.Mathlib.Omega.{arith}
 use native.Mathlib.Nat.{add-sub-cancel-left}
-use lib.ListN.{length, set, replicate}
+use lib.ListN.{length, length-map, set, replicate}
 use lib.Seq.{sets}
 use borrow.Author.Needs.{needs}
 use borrow.Author.Tests.{eq-eqb, ne-eqb}
@@ -77,21 +77,24 @@ element-write-next c = search needs
 accepted-requires : tie.Need-accepted-requires
 accepted-requires c κs = search needs
 
+unedited-requires : tie.Need-unedited-requires
+unedited-requires c κs = search needs
+
 same-length : tie.Need-same-length
 same-length c = search needs
 
 returns-2 : tie.Need-returns-2
 unfolding exitOn exitHeaps first settled answered
 returns-2 c =
-    let b = c .before .before .before .before .before .before .before .before .before .args .b in
-    let p = c .before .before .before .before .before .before .before .before .before .pre in
-    let n : length (b .identities) ≡ 16 = search needs in
-    let r : b .running < 16 = omega (arith, c .before .before .before .before .before .before .before .if1 .left, p .runs) in
+    let b = c .before .before .before .before .before .before .before .before .before .before .args .b in
+    let p = c .before .before .before .before .before .before .before .before .before .before .pre in
+    let n : length (b .identities) ≡ 16 = sym (length-map (b .identities) (λ v. v)) ∙ c .before .before .before .before .before .before .before .before .before .before .good .0 .1 .1 .1 .1 .0 .1 .0 .1 in
+    let r : b .running < 16 = omega (arith, c .before .before .before .before .before .before .before .before .if1 .left, p .runs) in
     let m = map-left (b .identities) (b .running) (omega arith) (p .live r) in
     let t : b .taken - 2 ^ b .running ≡ takenMap (set (b .identities) (b .running) 0) = omega (arith, p .map) in
-    let e = ne-eqb _ _ (c .before .before .before .before .before .before .before .if1 .left) in (
-      rw (c .accepted .ensures, c .before .before .bit-of .ensures, t, e),
-      rw (e, c .before .before .before .before .before .clear .ensures) (cleared-part _ (256 * b .running) (omega (arith, p .size))),
+    let e = ne-eqb _ _ (c .before .before .before .before .before .before .before .before .if1 .left) in (
+      rw (c .unedited .ensures, c .before .accepted .ensures, c .before .before .before .bit-of .ensures, t, e),
+      rw (e, c .before .before .before .before .before .before .clear .ensures) (cleared-part _ (256 * b .running) (omega (arith, p .size))),
     )
 
 pub exit-running-spec : {M : Type 1} → statement M
@@ -112,5 +115,6 @@ exit-running-spec =
     mul-next
     element-write-next
     accepted-requires
+    unedited-requires
     same-length
     returns-2)

@@ -1,41 +1,52 @@
+use Prim.Native.Nat.{_+_}
 use mathlib.Core.Path.{sym, _∙_}
 use native.Mathlib.Omega.{arith}
 use borrow.Author.Needs.{needs}
-use Rattle.state.specs.Answers.{settled}
-use Rattle.state.proofs.Settled.{refused-leaves}
-use Rattle.shared.specs.Narrow.{showed, sharedReadAnswer, sharedReadOutput}
-use Rattle.shared.proofs.Ranges.{range-fits}
+use borrow.Author.Tests.{ltb-false}
+use Rattle.ideal.specs.Step.{first, beyond}
+use Rattle.state.specs.Answers.{settled, showed}
+use Rattle.shared.specs.Narrow.{sharedRefusal, sharedReadAnswer, sharedReadOutput}
 use Rattle.shared.proofs.shared_read.Statement.{statement}
 use Rattle.shared.proofs.shared_read.Tie as tie
 
-range-refusal-requires : tie.Need-range-refusal-requires
-range-refusal-requires c κs = search needs
+beyond-requires : tie.Need-beyond-requires
+beyond-requires c κs = search needs
 
 refused-requires : tie.Need-refused-requires
 refused-requires c κs = search needs
 
 returns : tie.Need-returns
-unfolding sharedReadAnswer sharedReadOutput showed
+unfolding sharedReadAnswer sharedReadOutput sharedRefusal first beyond settled showed
 returns c =
-    let e = c .before .before .range-refusal .ensures in
-    let z = c .before .if1 .taken in
-    (rw (← e, refused-leaves _ _ _ z) (c .refused .ensures), rw (← e, refused-leaves _ _ _ z))
+    let e = sym (c .before .before .beyond .ensures) ∙ c .before .if1 .taken in
+    (rw e (c .refused .ensures), rw e)
 
 show-requires : tie.Need-show-requires
 show-requires c κs =
-    let f = range-fits _ _ _ (sym (c .before .before .range-refusal .ensures) ∙ c .before .if1 .left) in
+    let x = c .before .before .before .before .before .args in
+    let f = ltb-false 1024 (x .offset + x .size) (sym (c .before .before .beyond .ensures) ∙ c .before .if1 .left) in
     (omega (arith, c .before .before .before .before .before .pre), omega (arith, c .before .before .before .before .before .pre))
+
+shown-requires : tie.Need-shown-requires
+shown-requires c κs = search needs
 
 same-length : tie.Need-same-length
 same-length c = search needs
 
 returns-2 : tie.Need-returns-2
-unfolding sharedReadAnswer sharedReadOutput showed settled
+unfolding sharedReadAnswer sharedReadOutput sharedRefusal first beyond settled showed
 returns-2 c =
-    let z = sym (c .before .before .before .before .before .range-refusal .ensures) ∙ c .before .before .before .before .if1 .left in
-    (rw z (c .before .before .show .ensures .0), rw z (c .before .before .show .ensures .1))
+    let e = sym (c .before .before .before .before .before .before .beyond .ensures) ∙ c .before .before .before .before .before .if1 .left in
+    (rw e (c .shown .ensures), rw e (c .before .before .before .show .ensures))
 
 pub shared-read-spec : {M : Type 1} → statement M
 shared-read-spec =
     tie.close
-    (tie.spec range-refusal-requires refused-requires returns show-requires same-length returns-2)
+    (tie.spec
+    beyond-requires
+    refused-requires
+    returns
+    show-requires
+    shown-requires
+    same-length
+    returns-2)

@@ -1,5 +1,5 @@
 use borrow.Author.Tests.{eq-eqb, ne-eqb}
-use Rattle.ideal.proofs.Bools.{and-nil}
+use Rattle.lists.proofs.Bools.{and-nil}
 use Rattle.ideal.specs.Soundness.{sizesRight, pass}
 use Rattle.sound.proofs.sizes_right.Statement.{statement}
 use Rattle.sound.proofs.sizes_right.Tie as tie

@@ -1,7 +1,7 @@
 use mathlib.Core.Path.{sym, _∙_}
 use borrow.Author.Tests.{le-leb, lt-leb, not-true, not-false}
 use borrow.Author.Needs.{needs}
-use Rattle.ideal.proofs.Bools.{and-nil}
+use Rattle.lists.proofs.Bools.{and-nil}
 use Rattle.ideal.specs.Soundness.{pass, sameHandle}
 use Rattle.ideal.specs.Tables.{escrowTable}
 use Rattle.soundness.specs.Tests.{tableSound, escrowSound}

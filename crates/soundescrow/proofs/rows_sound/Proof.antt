@@ -10,7 +10,7 @@ use borrow.Author.Tests.{eq-eqb, ne-eqb, not-true, not-false}
 use borrow.Author.Needs.{needs}
 use Rattle.ideal.specs.State.{every}
 use Rattle.ideal.specs.Tables.{escrowTable}
-use Rattle.ideal.proofs.Bools.{and-nil}
+use Rattle.lists.proofs.Bools.{and-nil}
 use Rattle.buffers.proofs.Loops.{to-end}
 use Rattle.soundness.specs.Tests.{rowsSound, bytesAndRows, escrowRowRight, escrowBits}
 use Rattle.soundness.proofs.Rows.{rows-step, rows-ended, right-short, join-step, join-more, escrow-bits}

@@ -5,7 +5,7 @@ use lib.ListN.{length, take, drop}
 use borrow.Author.Tests.{le-leb, lt-leb, not-true, not-false}
 use borrow.Author.Needs.{needs}
 use Rattle.ideal.proofs.Fit.{fits-less, chain-fits}
-use Rattle.ideal.proofs.Bools.{and-left, and-right, and-nil}
+use Rattle.lists.proofs.Bools.{and-left, and-right, and-nil}
 use Rattle.ideal.specs.Soundness.{allZero, chained, pass}
 use Rattle.ideal.specs.Tables.{logTable}
 use Rattle.soundness.specs.Tests.{rowsSound, bytesAndRows, logRowRight, sameLogged, tableSound, logSound}

@@ -10,7 +10,7 @@ use borrow.Author.Tests.{eq-eqb, ne-eqb, not-true, not-false}
 use borrow.Author.Needs.{needs}
 use Rattle.ideal.specs.State.{every}
 use Rattle.ideal.specs.Tables.{logTable}
-use Rattle.ideal.proofs.Bools.{and-nil}
+use Rattle.lists.proofs.Bools.{and-nil}
 use Rattle.buffers.proofs.Loops.{to-end}
 use Rattle.soundness.specs.Tests.{rowsSound, bytesAndRows, logRowRight, logBits}
 use Rattle.soundness.proofs.Rows.{rows-step, rows-ended, right-short, join-step, join-more, log-bits}

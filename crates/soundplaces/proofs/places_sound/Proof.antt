@@ -6,7 +6,7 @@ use borrow.Author.Needs.{needs}
 use Rattle.record.specs.Layout.{stands}
 use Rattle.ideal.specs.declared.BoxRecord.{BoxRecord}
 use Rattle.ideal.specs.Tables.{takenMap}
-use Rattle.ideal.proofs.Bools.{and-nil, and-false}
+use Rattle.lists.proofs.Bools.{and-nil, and-false}
 use Rattle.ideal.proofs.Memory.{taken-at}
 use Rattle.ideal.specs.Soundness.{runningTaken, pass}
 use Rattle.soundness.specs.Tests.{placesSound}

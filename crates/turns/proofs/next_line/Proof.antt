@@ -15,8 +15,8 @@ slice-aggregate-write-answer c = search needs
 
 write-answer-requires : tie.Need-write-answer-requires
 write-answer-requires c κs =
-    let fits = shown-fits _ _ _ _ (c .before .before .before .before .before .before .before .before .before .before .before .call-sound .ensures .0) in
-    (fits, omega (arith, fits, c .before .before .output2 .given, c .before .before .before .before .before .before .before .before .before .before .before .before .before .before .before .before .before .before .before .before .before .before .before .pre .1))
+    let fits = shown-fits _ _ _ _ (c .before .before .before .before .before .before .before .before .before .before .before .before .call-sound .ensures .0) in
+    (fits, omega (arith, fits, c .before .before .before .output2 .given, c .before .before .before .before .before .before .before .before .before .before .before .before .before .before .before .before .before .before .before .before .before .before .before .before .pre .1))
 
 is-last-requires : tie.Need-is-last-requires
 is-last-requires c κs = search needs
@@ -38,12 +38,8 @@ same-length-5 c = search needs
 
 returns : tie.Need-returns
 returns c =
-    let written = c .before .before .before .before in
-    let called = written .before .before .before .before .before .before .before .before .before .before .before .before in (
-      rw (c .is-last .ensures)
-          (turn-called _ _ _ _ (called .call-sound .ensures .0) (called .before .before .before .before .before .before .before .before .before .before .before .before .pre .0) (written .write-answer .ensures)),
-      called .call-sound .ensures .1,
-    )
+    let called = c .before .before .before .before .before .before .before .before .before .before .before .before .before .before .before .before .before .before .call-sound .ensures in
+    (rw (c .is-last .ensures) (turn-called _ _ _ _ (called .0) (c .before .before .before .before .before .before .before .before .before .before .before .before .before .before .before .before .before .before .before .before .before .before .before .before .before .before .before .before .before .before .pre .0) (c .before .before .before .before .before .write-answer .ensures)), called .1)
 
 pub next-line-spec : {M : Type 1} → statement M
 next-line-spec =

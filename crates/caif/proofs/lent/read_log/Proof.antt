@@ -6,37 +6,25 @@ use denote.Triple.Spec.{tripleOf}
 use denote.Triple.Table.{entered, cited}
 use Rattle.state.specs.declared.LogTable.{LogTable}
 use Rattle.ideal.specs.Tables.{freshTables}
-use Rattle.rows.proofs.Kind.{Kind}
 use Rattle.rows.proofs.Held.{log-row, log-table}
 use Rattle.rows.proofs.copy_log as copy
 use Rattle.rows.proofs.copy_log.Symbol as copy-def
 use Rattle.rows.proofs.copy_log.Met as copy-thm
-use Rattle.caif.specs.declared.LentLog.{LentLog}
-use Rattle.caif.proofs.LentLog as L
-use Rattle.caif.proofs.LentLog.Laws as L′
+use Rattle.state.proofs.fresh_log as fresh
+use Rattle.state.proofs.fresh_log.Symbol as fresh-def
+use Rattle.state.proofs.fresh_log.Met as fresh-thm
 use Rattle.caif.proofs.ReadRows.{read-rows-meets}
-use Rattle.caif.proofs.copied.whole_log as all
-use Rattle.caif.proofs.copied.whole_log.Symbol as all-def
-use Rattle.caif.proofs.copied.whole_log.Met as all-thm
-use Rattle.caif.proofs.copied.no_log as none
-use Rattle.caif.proofs.copied.no_log.Symbol as none-def
-use Rattle.caif.proofs.copied.no_log.Met as none-thm
 use Rattle.caif.proofs.lent.read_log.Key.{name}
 use Rattle.caif.proofs.lent.read_log as self
 use Rattle.caif.proofs.lent.read_log.Statement as stated
 use Rattle.caif.proofs.lent.read_log.Code as code
-
-abbrev lent : Kind
-lent = record { type = L.the-type; laws = L′.the-laws; facts = L′.the-plain; copies = L′.the-copy; small = tt }
 
 pub read-log-spec : {M : Type 1} → stated.statement M
 unfolding code.routine tablesOf
 read-log-spec 𝓤 H 𝓜 𝓖 𝓡 =
     entered 𝓤 H (tripleOf 𝓤 H (𝓖 .A) self.signature (self.spec 𝓤 H (𝓖 .A) (𝓜 .mem) (𝓡 .run)))
     (tables 𝓤 H 𝓜 𝓡 code.env .C) (tables 𝓤 H 𝓜 𝓡 code.env .Λ) name code.function (code.unfolded 𝓤 H 𝓜 𝓡)
-    (read-rows-meets log-row log-table lent (λ (t : LogTable). t .rows) (λ (r : LentLog). r .whole) (λ (r : LentLog). r .table) (freshTables .logRows)
-    copy-def.name all-def.name none-def.name 𝓤 H (𝓖 .A) (givenOf 𝓤 H 𝓜 𝓖)
+    (read-rows-meets log-row log-table (λ (t : LogTable). t .rows) (freshTables .logRows) copy-def.name fresh-def.name 𝓤 H (𝓖 .A) (givenOf 𝓤 H 𝓜 𝓖)
     (λ κs a. self.clauses 𝓤 H (𝓖 .A) (𝓜 .mem) (𝓡 .run) κs a .ensures) (λ κs a r e p. factI 𝓤 _ _ p) (tablesOf 𝓤 H 𝓜 (tables 𝓤 H 𝓜 𝓡 code.env))
     (cited 𝓤 H (tripleOf 𝓤 H (𝓖 .A) copy.signature (copy.spec 𝓤 H (𝓖 .A) (𝓜 .mem) (𝓡 .run))) 𝓜 𝓡 code.env copy-def.name copy-def.routine code.calls-rows·copy-log (copy-thm.met 𝓤 H 𝓜 𝓖 𝓡))
-    (cited 𝓤 H (tripleOf 𝓤 H (𝓖 .A) all.signature (all.spec 𝓤 H (𝓖 .A) (𝓜 .mem) (𝓡 .run))) 𝓜 𝓡 code.env all-def.name all-def.routine code.calls-caif·copied·whole-log (all-thm.met 𝓤 H 𝓜 𝓖 𝓡))
-    (cited 𝓤 H (tripleOf 𝓤 H (𝓖 .A) none.signature (none.spec 𝓤 H (𝓖 .A) (𝓜 .mem) (𝓡 .run))) 𝓜 𝓡 code.env none-def.name none-def.routine code.calls-caif·copied·no-log (none-thm.met 𝓤 H 𝓜 𝓖 𝓡)))
+    (cited 𝓤 H (tripleOf 𝓤 H (𝓖 .A) fresh.signature (fresh.spec 𝓤 H (𝓖 .A) (𝓜 .mem) (𝓡 .run))) 𝓜 𝓡 code.env fresh-def.name fresh-def.routine code.calls-state·fresh-log (fresh-thm.met 𝓤 H 𝓜 𝓖 𝓡)))

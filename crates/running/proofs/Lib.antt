@@ -1,2 +1,0 @@
-pub mod Ones
-pub mod Bridge
