@@ -1,6 +1,5 @@
 // Lent bytes: whether they are 0, or the same; copied, put, shown and cleared; and whether a range goes beyond a limit.
 ghost use mathlib.Core.Path.{_≡_};
-ghost use mathlib.Core.Bool.{_&&_};
 ghost use Prim.Native.Nat.{_+_, _≤_};
 ghost use lib.Dec.{ltb};
 ghost use lib.ListN.{length, replicate, take, drop};
@@ -8,22 +7,8 @@ ghost use lib.Seq.{sets};
 ghost use mathlib.Core.List.{_++_};
 ghost use Rattle.lists.specs.Lists.{sameBytes, allZero};
 
-// Whether the bytes of four parts of one length are 0: joined by `|`, with no way out of the loop, so that it is compiled to
-// vector code, and four parts a turn, so that the loop's own steps cost little beside them.
-fn four_zero(a: &[u8], b: &[u8], c: &[u8], d: &[u8]) -> bool
-    requires { ⌜ (length (now b) ≡ length (now a)) × (length (now c) ≡ length (now a)) × (length (now d) ≡ length (now a)) ⌝ }
-    ensures { λ r. ⌜ r ≡ (allZero (now (a .entry)) && allZero (now (b .entry))) && (allZero (now (c .entry)) && allZero (now (d .entry))) ⌝ }
-{
-    let mut all: u8 = 0;
-    let mut i = 0;
-    while i < a.len() {
-        all = all | ((a[i] | b[i]) | (c[i] | d[i]));
-        i += 1;
-    }
-    all == 0
-}
-
-fn rest_zero(s: &[u8]) -> bool
+// Whether the bytes are 0: joined by `|`, with no way out of the loop, so that it is compiled to vector code.
+fn part_zero(s: &[u8]) -> bool
     ensures { λ r. ⌜ r ≡ allZero (now (s .entry)) ⌝ }
 {
     let mut all: u8 = 0;
@@ -35,23 +20,20 @@ fn rest_zero(s: &[u8]) -> bool
     all == 0
 }
 
-// Whether every byte is 0: the four quarters at once, and the bytes that are left, three at most.
+// Whether every byte is 0: 256 at a time, a length known beforehand, so that the loop over them takes no steps of its own, and
+// what is left.
 pub fn all_zero(s: &[u8]) -> bool
     ensures { λ r. ⌜ r ≡ allZero (now (s .entry)) ⌝ }
 {
-    let quarter = s.len() >> 2;
-    let second = quarter + quarter;
-    let third = second + quarter;
-    let fourth = third + quarter;
-    if !four_zero(
-        &s[..quarter],
-        &s[quarter..second],
-        &s[second..third],
-        &s[third..fourth],
-    ) {
-        return false;
+    let mut i: usize = 0;
+    while s.len() - i >= 256 {
+        let end = i + 256;
+        if !part_zero(&s[i..end]) {
+            return false;
+        }
+        i = end;
     }
-    rest_zero(&s[fourth..])
+    part_zero(&s[i..])
 }
 
 pub fn same(a: &[u8], b: &[u8]) -> bool

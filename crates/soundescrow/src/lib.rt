@@ -2,11 +2,10 @@
 ghost use mathlib.Core.Path.{_≡_};
 ghost use mathlib.Core.List.{List, []};
 ghost use Prim.Native.Nat.{ℕ, _/_, _^_, _≤_};
-ghost use lib.ListN.{length, take, drop};
-ghost use Rattle.ideal.specs.State.{every};
+ghost use lib.ListN.{length, take};
 ghost use Rattle.ideal.specs.Tables.{escrowTable, entriesOf};
 ghost use Rattle.ideal.specs.Soundness.{sameHandle};
-ghost use Rattle.soundness.specs.Tests.{rowSound, rowsSound, differBefore, escrowRowRight, escrowSound};
+ghost use Rattle.soundness.specs.Tests.{rowSound, bytesAndRows, differBefore, escrowRowRight, escrowSound};
 use buffers::all_zero;
 use handles::handle_in;
 use ideal::EscrowRow;
@@ -39,11 +38,15 @@ fn row_sound(row: EscrowRow, at: usize) -> bool
     length_of(row.handle) == row.length as u64
 }
 
-// Whether the first n rows are right and follow each other, from 0 to `end`.
-fn rows_sound(rows: [EscrowRow; 64], n: usize, end: usize) -> bool
-    requires { ⌜ n ≤ 64 ⌝ }
-    ensures { λ r. ⌜ r ≡ rowsSound escrowTable escrowRowRight end 0 (take n rows) ⌝ }
+// Whether the value bytes from `end` on are 0, the first n rows right and one after the other, from 0 to `end`, and the rest
+// blank: in one function, as in the log.
+fn rows_sound(rows: [EscrowRow; 64], n: usize, end: usize, values: &[u8]) -> bool
+    requires { ⌜ (n ≤ 64) × (end ≤ length (now values)) ⌝ }
+    ensures { λ r. ⌜ r ≡ bytesAndRows escrowTable escrowRowRight n end rows (now (values .entry)) ⌝ }
 {
+    if !all_zero(&values[end..]) {
+        return false;
+    }
     let mut at: usize = 0;
     let mut i: usize = 0;
     while i < n {
@@ -54,7 +57,23 @@ fn rows_sound(rows: [EscrowRow; 64], n: usize, end: usize) -> bool
         at += row.length as usize;
         i += 1;
     }
-    at == end
+    if at != end {
+        return false;
+    }
+    let mut sources: u64 = 0;
+    let mut recipients: u64 = 0;
+    let mut handles: u64 = 0;
+    let mut places: u64 = 0;
+    while i < 64 {
+        let row = rows[i];
+        sources = sources | row.source;
+        recipients = recipients | row.recipient;
+        handles = handles | row.handle.0;
+        places = places | (row.first as u64 + row.length as u64 * 65536);
+        i += 1;
+    }
+    let all = ((sources | recipients) | handles) | places;
+    all == 0
 }
 
 // Whether none of the first n rows has the handle of one before it, whatever the values.
@@ -73,28 +92,6 @@ fn handles_differ(rows: [EscrowRow; 64], n: usize) -> bool
     true
 }
 
-// Whether the rows from n on are blank: the bits of each field are joined by themselves, with no way out of the loop.
-fn rows_blank(rows: [EscrowRow; 64], n: usize) -> bool
-    requires { ⌜ n ≤ 64 ⌝ }
-    ensures { λ r. ⌜ r ≡ every (escrowTable .isBlank) (drop n rows) ⌝ }
-{
-    let mut sources: u64 = 0;
-    let mut recipients: u64 = 0;
-    let mut handles: u64 = 0;
-    let mut parts: u64 = 0;
-    let mut i = n;
-    while i < 64 {
-        let row = rows[i];
-        sources = sources | row.source;
-        recipients = recipients | row.recipient;
-        handles = handles | row.handle.0;
-        parts = parts | (row.first as u64 | row.length as u64);
-        i += 1;
-    }
-    let all = ((sources | recipients) | handles) | parts;
-    all == 0
-}
-
 pub fn escrow_sound(rows: [EscrowRow; 64], values: &[u8], used: Used) -> bool
     requires { ⌜ length (now values) ≡ 4096 ⌝ }
     ensures { λ r. ⌜ r ≡ escrowSound rows (now (values .entry)) used ⌝ }
@@ -107,14 +104,12 @@ pub fn escrow_sound(rows: [EscrowRow; 64], values: &[u8], used: Used) -> bool
     }
     let n = used.rows as usize;
     let end = used.bytes as usize;
-    if !rows_sound(rows, n, end) {
+    if !rows_sound(rows, n, end, values) {
         return false;
     }
-    if !handles_differ(rows, n) {
-        return false;
+    // Asked first, because the rows are copied for the loop.
+    if n < 2 {
+        return true;
     }
-    if !rows_blank(rows, n) {
-        return false;
-    }
-    all_zero(&values[end..])
+    handles_differ(rows, n)
 }

@@ -2,11 +2,10 @@
 ghost use mathlib.Core.Path.{_≡_};
 ghost use mathlib.Core.List.{[]};
 ghost use Prim.Native.Nat.{_≤_};
-ghost use lib.ListN.{length, take, drop};
-ghost use Rattle.ideal.specs.State.{every};
+ghost use lib.ListN.{length, take};
 ghost use Rattle.ideal.specs.Tables.{logTable, entriesOf};
 ghost use Rattle.ideal.specs.Fit.{RowsFit};
-ghost use Rattle.soundness.specs.Tests.{rowSound, rowsSound, differBefore, logRowRight, sameLogged, logSound};
+ghost use Rattle.soundness.specs.Tests.{rowSound, bytesAndRows, differBefore, logRowRight, sameLogged, logSound};
 use buffers::all_zero;
 use fnv::tag_of;
 use ideal::LogRow;
@@ -35,11 +34,17 @@ fn row_sound(row: LogRow, at: usize, values: &[u8]) -> bool
     row.tag.0 == tag.0
 }
 
-// Whether the first n rows are right and follow each other, from 0 to `end`.
+// Whether the value bytes from `end` on are 0, the first n rows right and one after the other, from 0 to `end`, and the rest
+// blank. In one function, because the rows are copied as a function begins that has a loop over them; the bytes first, because
+// rows that were just copied are slow to read. The bits of blank rows are joined with no way out of the loop, each field by
+// itself, so that one join need not wait for another; first and length are read as one.
 fn rows_sound(rows: [LogRow; 64], n: usize, end: usize, values: &[u8]) -> bool
-    requires { ⌜ n ≤ 64 ⌝ }
-    ensures { λ r. ⌜ r ≡ rowsSound logTable (logRowRight (now (values .entry))) end 0 (take n rows) ⌝ }
+    requires { ⌜ (n ≤ 64) × (end ≤ length (now values)) ⌝ }
+    ensures { λ r. ⌜ r ≡ bytesAndRows logTable (logRowRight (now (values .entry))) n end rows (now (values .entry)) ⌝ }
 {
+    if !all_zero(&values[end..]) {
+        return false;
+    }
     let mut at: usize = 0;
     let mut i: usize = 0;
     while i < n {
@@ -50,7 +55,21 @@ fn rows_sound(rows: [LogRow; 64], n: usize, end: usize, values: &[u8]) -> bool
         at += row.length as usize;
         i += 1;
     }
-    at == end
+    if at != end {
+        return false;
+    }
+    let mut identities: u64 = 0;
+    let mut tags: u64 = 0;
+    let mut places: u64 = 0;
+    while i < 64 {
+        let row = rows[i];
+        identities = identities | row.identity;
+        tags = tags | row.tag.0;
+        places = places | (row.first as u64 + row.length as u64 * 65536);
+        i += 1;
+    }
+    let all = (identities | tags) | places;
+    all == 0
 }
 
 // Whether none of the first n rows has the pair of one before it. Their tags are right, so that a pair has one tag, and
@@ -72,27 +91,6 @@ fn pairs_differ(rows: [LogRow; 64], n: usize, values: &[u8]) -> bool
     true
 }
 
-// Whether the rows from n on are blank: the bits of each field are joined by themselves, so that one join need not wait for
-// another, with no way out of the loop.
-fn rows_blank(rows: [LogRow; 64], n: usize) -> bool
-    requires { ⌜ n ≤ 64 ⌝ }
-    ensures { λ r. ⌜ r ≡ every (logTable .isBlank) (drop n rows) ⌝ }
-{
-    let mut identities: u64 = 0;
-    let mut tags: u64 = 0;
-    let mut parts: u64 = 0;
-    let mut i = n;
-    while i < 64 {
-        let row = rows[i];
-        identities = identities | row.identity;
-        tags = tags | row.tag.0;
-        parts = parts | (row.first as u64 | row.length as u64);
-        i += 1;
-    }
-    let all = (identities | tags) | parts;
-    all == 0
-}
-
 pub fn log_sound(rows: [LogRow; 64], values: &[u8], used: Used) -> bool
     requires { ⌜ length (now values) ≡ 4096 ⌝ }
     ensures { λ r. ⌜ r ≡ logSound rows (now (values .entry)) used ⌝ }
@@ -108,11 +106,9 @@ pub fn log_sound(rows: [LogRow; 64], values: &[u8], used: Used) -> bool
     if !rows_sound(rows, n, end, values) {
         return false;
     }
-    if !pairs_differ(rows, n, values) {
-        return false;
+    // Asked first, because the rows are copied for the loop.
+    if n < 2 {
+        return true;
     }
-    if !rows_blank(rows, n) {
-        return false;
-    }
-    all_zero(&values[end..])
+    pairs_differ(rows, n, values)
 }

@@ -1,5 +1,5 @@
 -- Entries compared with those before them, as the code does, and with those after them, as the definition does. Assumes nothing.
-use Prim.Native.Nat.{ℕ, _+_, _≤_, _<_}
+use Prim.Native.Nat.{ℕ, zero, suc, _+_, _≤_, _<_}
 use mathlib.Core.Path.{_≡_, refl, sym, ap, _∙_}
 use mathlib.Core.Bool.{Bool, true, false, not, _&&_, _||_}
 use mathlib.Core.List.{List, [], _∷_, _++_}
@@ -117,3 +117,11 @@ module _ {Row Key : Type 0} (t : RowsOf Row Key) (same : Entry Key → Entry Key
         take-suc rows i (t .blank) (omega arith),
         entries-more (take i rows) (getD rows i (t .blank)),
       )
+
+  -- one row or none has none to differ from
+  pub few-differ : (rows : List Row) (n : ℕ) → n < 2 → differBefore same [] (entriesOf t values (take n rows)) ≡ true
+  unfolding differBefore entriesOf any
+  few-differ rows zero h = refl
+  few-differ [] (suc zero) h = refl
+  few-differ (r ∷ rows) (suc zero) h = refl
+  few-differ rows (suc (suc n)) h = absurd (omega arith)

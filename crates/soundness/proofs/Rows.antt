@@ -1,6 +1,6 @@
 -- The rows of a table, for the log and the escrow both: what one turn of a loop adds, and that the test of rows in one pass is
 -- the definition's clauses together. Assumes nothing.
-use Prim.Native.Nat.{ℕ, _+_, _≤_, _<_}
+use Prim.Native.Nat.{ℕ, zero, suc, _+_, _*_, _≤_, _<_}
 use mathlib.Core.Path.{_≡_, refl, sym, ap, _∙_}
 use mathlib.Core.Bool.{Bool, true, _&&_}
 use mathlib.Core.List.{List, [], _∷_}
@@ -8,18 +8,18 @@ use native.Mathlib.Omega.{arith}
 use native.Mathlib.Numerals.{add-one}
 use lib.Bits.{bitOr}
 use lib.Dec.{eqb, leb}
-use lib.ListN.{length, getD, take, drop}
-use lib.Seq.{drop-cons}
-use borrow.Author.Tests.{eqb-true, leb-true, le-leb}
+use lib.ListN.{length, length-take, getD, take, drop}
+use lib.Seq.{drop-cons, drop-length}
+use borrow.Author.Tests.{eqb-true, ne-eqb, leb-true, le-leb}
 use Rattle.ideal.specs.declared.LogRow.{LogRow}
 use Rattle.ideal.specs.declared.EscrowRow.{EscrowRow}
 use Rattle.ideal.specs.State.{Entry, every}
 use Rattle.ideal.specs.Tables.{RowsOf, logTable, escrowTable, entryOf, entriesOf}
-use Rattle.ideal.specs.Soundness.{chained, short}
+use Rattle.ideal.specs.Soundness.{allZero, chained, short}
 use Rattle.lists.proofs.Bools.{and-left, and-right, and-true, and-nil, and-assoc, and-swap}
-use Rattle.buffers.proofs.Loops.{joined}
 use Rattle.lists.proofs.Lists.{one-on}
-use Rattle.soundness.specs.Tests.{rowSound, rowsSound, logBits, escrowBits}
+use Rattle.buffers.proofs.Loops.{joined}
+use Rattle.soundness.specs.Tests.{rowSound, rowsSound, bytesAndRows, logBits, escrowBits}
 
 -- one element on
 pub every-step : {A : Type 0} (p : A → Bool) (l : List A) (d : A) (i : ℕ) → i < length l
@@ -40,13 +40,19 @@ join-more s a x d z e =
     rw (joined s (bitOr d z), e, joined a x, joined d z, joined (bitOr a d) (bitOr x z), joined a d, joined x z)
     (and-swap (eqb a 0) (eqb x 0) (eqb d 0) (eqb z 0))
 
+-- two numbers of a row as one
+sum-bits : (a b : ℕ) → eqb (a + b * 65536) 0 ≡ eqb a 0 && eqb b 0
+sum-bits zero zero = refl
+sum-bits zero (suc b) = rw (ne-eqb (suc b) 0 (λ e. omega (arith, e))) (ne-eqb (zero + suc b * 65536) 0 (λ e. omega (arith, e)))
+sum-bits (suc a) b = rw (ne-eqb (suc a) 0 (λ e. omega (arith, e))) (ne-eqb (suc a + b * 65536) 0 (λ e. omega (arith, e)))
+
 pub log-bits : (r : LogRow) → eqb (logBits r) 0 ≡ logTable .isBlank r
 unfolding logBits
-log-bits r = simp (joined, and-assoc)
+log-bits r = simp (joined, sum-bits, and-assoc)
 
 pub escrow-bits : (r : EscrowRow) → eqb (escrowBits r) 0 ≡ escrowTable .isBlank r
 unfolding escrowBits
-escrow-bits r = simp (joined, and-assoc)
+escrow-bits r = simp (joined, sum-bits, and-assoc)
 
 module _ {Row Key : Type 0} (t : RowsOf Row Key) where
   pub every-entry : (values : List ℕ) (p : Entry Key → Bool) (rs : List Row)
@@ -77,6 +83,16 @@ module _ {Row Key : Type 0} (t : RowsOf Row Key) where
     pub right-short : (at : ℕ) (r : Row) → rowSound t right at r ≡ true → t .size r ≤ 256
     unfolding rowSound
     right-short at r h = leb-true _ _ (and-left (leb (t .size r) 256) _ (and-right (eqb (t .first r) at) _ h))
+
+    -- behind the first n rows, where the bytes are zero: their end and the blank rows are left to be tested
+    pub rows-ended : (end at : ℕ) (rows : List Row) (values : List ℕ) (n i : ℕ) → i ≡ n → n ≤ length rows → allZero (drop end values) ≡ true
+        → rowsSound t right end at (drop i (take n rows)) ≡ rowsSound t right end 0 (take n rows)
+        → eqb at end && every (t .isBlank) (drop i rows) ≡ bytesAndRows t right n end rows values
+    unfolding rowsSound bytesAndRows
+    rows-ended end at rows values n i e q z h =
+        let l : i ≡ length (take n rows) = simp length-take (omega arith) in
+        let k : eqb at end ≡ rowsSound t right end 0 (take n rows) = rw (l, drop-length (take n rows)) at h in
+        rw (z, k, e)
 
     -- the clauses apart
     pub rows-clauses : (end at : ℕ) (rs : List Row)

@@ -20,7 +20,7 @@ use Rattle.ideal.proofs.Facts.{Facts, facts, facts-sound, every-both}
 use Rattle.state.specs.declared.LogTable.{LogTable}
 use Rattle.state.specs.declared.EscrowTable.{EscrowTable}
 use Rattle.soundness.specs.Parts.{tablesOf, Counted, Lent}
-use Rattle.soundness.specs.Tests.{placesSound, differBefore, rowsSound, tableSound, logRowRight, sameLogged, logSound, escrowRowRight, escrowSound}
+use Rattle.soundness.specs.Tests.{placesSound, differBefore, rowsSound, bytesAndRows, tableSound, logRowRight, sameLogged, logSound, escrowRowRight, escrowSound}
 use Rattle.soundness.proofs.Rows.{every-entry, chain-within, rows-clauses}
 use Rattle.soundness.proofs.Differ.{pairs-differ, handles-differ}
 
@@ -42,7 +42,7 @@ record Right {Row Key : Type 0} (t : RowsOf Row Key) (right : Row → Bool) (sam
 module _ {Row Key : Type 0} (t : RowsOf Row Key) (right : Row → Bool) (same : Entry Key → Entry Key → Bool) (rows : List Row)
     (values : List ℕ) (used : Used) where
   table-facts : length rows ≡ 64 → length values ≡ 4096 → tableSound t right same rows values used ≡ true → Right t right same rows values used
-  unfolding tableSound pass
+  unfolding tableSound bytesAndRows pass
   table-facts l m h =
       let n = used .rows in
       let end = used .bytes in
@@ -52,10 +52,10 @@ module _ {Row Key : Type 0} (t : RowsOf Row Key) (right : Row → Bool) (same : 
       let b = every (t .isBlank) (drop n rows) in
       let h₁ = and-right (leb n 64) _ h in
       let h₂ = and-right (leb end 4096) _ h₁ in
-      let h₃ = and-right r _ h₂ in
-      let h₄ = and-right d _ h₃ in
-      let h₅ = and-right b _ h₄ in
-      let clauses = sym (rows-clauses t right end 0 front) ∙ and-left r _ h₂ in
+      let z = allZero (drop end values) in
+      let h₃ = and-left (z && (r && b)) _ h₂ in
+      let all = and-right z _ h₃ in
+      let clauses = sym (rows-clauses t right end 0 front) ∙ and-left r _ all in
       let rest = and-right (chained t end 0 front) _ clauses in
       record {
         stands =
@@ -65,23 +65,23 @@ module _ {Row Key : Type 0} (t : RowsOf Row Key) (right : Row → Bool) (same : 
               few = leb-true n 64 (and-left (leb n 64) _ h);
               fits = leb-true end 4096 (and-left (leb end 4096) _ h₁);
               chain = and-left (chained t end 0 front) _ clauses;
-              blank = and-left b _ h₄;
-              zero = and-left (allZero (drop end values)) true h₅;
+              blank = and-right r _ all;
+              zero = and-left z _ h₃;
             };
         short-rows = and-left (short t front) _ rest;
         each = and-right (short t front) _ rest;
-        apart = and-left d _ h₃;
+        apart = and-left d true (and-right (z && (r && b)) _ h₂);
       }
 
   facts-table : Right t right same rows values used → tableSound t right same rows values used ≡ true
-  unfolding tableSound pass
+  unfolding tableSound bytesAndRows pass
   facts-table k =
       let n = used .rows in
       let end = used .bytes in
       let s = k .stands in
       let r : rowsSound t right end 0 (take n rows) ≡ true =
       rows-clauses t right end 0 (take n rows) ∙ and-true _ _ (s .chain) (and-true _ _ (k .short-rows) (k .each)) in
-      rw (le-leb n 64 (s .few), le-leb end 4096 (s .fits), r, k .apart, s .blank, s .zero)
+      rw (le-leb n 64 (s .few), le-leb end 4096 (s .fits), s .zero, r, s .blank, k .apart)
 
 -- ---- rows that are right by themselves
 

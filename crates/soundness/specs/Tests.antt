@@ -1,6 +1,6 @@
 -- The soundness test as the code makes it: the places, then each table by itself, several of the definition's clauses in one
 -- pass over the rows.
-use Prim.Native.Nat.{ℕ, _+_}
+use Prim.Native.Nat.{ℕ, _+_, _*_}
 use mathlib.Core.Bool.{Bool, true, not, _&&_}
 use mathlib.Core.List.{List, [], _∷_, _++_}
 use lib.Bits.{bitOr}
@@ -42,6 +42,11 @@ module _ {Row Key : Type 0} (t : RowsOf Row Key) where
   rowsSound right end at [] = eqb at end
   rowsSound right end at (r ∷ rs) = rowSound right at r && rowsSound right end (at + t .size r) rs
 
+  -- the value bytes from `end` on zero, the first n rows such, and the rest blank
+  unfoldable pub bytesAndRows : (right : Row → Bool) → (n end : ℕ) → List Row → List ℕ → Bool
+  bytesAndRows right n end rows values =
+      allZero (drop end values) && (rowsSound right end 0 (take n rows) && every (t .isBlank) (drop n rows))
+
   unfoldable pub tableSound : (right : Row → Bool) → (same : Entry Key → Entry Key → Bool) → List Row → List ℕ → Used → Bool
   tableSound right same rows values used =
       let n = used .rows in
@@ -49,10 +54,8 @@ module _ {Row Key : Type 0} (t : RowsOf Row Key) where
       pass
       (leb n 64
       and leb end 4096
-      and rowsSound right end 0 (take n rows)
+      and bytesAndRows right n end rows values
       and differBefore same [] (entriesOf t values (take n rows))
-      and every (t .isBlank) (drop n rows)
-      and allZero (drop end values)
       and done)
 
 -- ---- the log
@@ -71,7 +74,7 @@ logSound rows values used = tableSound logTable (logRowRight values) sameLogged 
 
 -- zero just where the row is blank
 unfoldable pub logBits : LogRow → ℕ
-logBits r = bitOr (bitOr (r .identity) (r .tag .0)) (bitOr (r .first) (r .length))
+logBits r = bitOr (bitOr (r .identity) (r .tag .0)) (r .first + r .length * 65536)
 
 -- ---- the escrow
 
@@ -83,4 +86,4 @@ escrowSound rows values used = tableSound escrowTable escrowRowRight sameHandle 
 
 -- zero just where the row is blank
 unfoldable pub escrowBits : EscrowRow → ℕ
-escrowBits r = bitOr (bitOr (bitOr (r .source) (r .recipient)) (r .handle .0)) (bitOr (r .first) (r .length))
+escrowBits r = bitOr (bitOr (bitOr (r .source) (r .recipient)) (r .handle .0)) (r .first + r .length * 65536)

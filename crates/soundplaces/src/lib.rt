@@ -1,25 +1,27 @@
 // The running place, the map of taken places, and the heaps of empty ones.
 ghost use mathlib.Core.Path.{_≡_};
-ghost use mathlib.Core.Bool.{cond, not, _||_};
-ghost use lib.Dec.{eqb};
+ghost use mathlib.Core.Bool.{cond, not, _&&_, _||_};
+ghost use lib.Dec.{eqb, ltb};
 ghost use lib.ListN.{length};
 ghost use Rattle.ideal.specs.Tables.{takenMap, chunks};
-ghost use Rattle.ideal.specs.Soundness.{runningTaken, allZero, emptyHeapsZero};
+ghost use Rattle.record.specs.Layout.{stands};
+ghost use Rattle.ideal.specs.Soundness.{allZero, emptyHeapsZero};
 ghost use Rattle.soundness.specs.Tests.{placesSound};
 use buffers::all_zero;
 use ideal::BoxRecord;
 
-fn running_taken(b: BoxRecord) -> bool
-    ensures { λ r. ⌜ r ≡ runningTaken b ⌝ }
+// Whether none runs, or the running place's bit of the map stands. Not by the identity at that place: an element at a place
+// that is not known beforehand keeps the whole record in memory.
+fn running_taken(running: u8, taken: u16) -> bool
+    ensures { λ r. ⌜ r ≡ (eqb running 16 || (ltb running 16 && stands taken running)) ⌝ }
 {
-    if b.running == 16 {
+    if running == 16 {
         return true;
     }
-    if b.running > 16 {
+    if running > 16 {
         return false;
     }
-    let place = b.running as usize;
-    b.identities[place] != 0
+    (taken >> running) % 2 == 1
 }
 
 // The bit of a place with this identity.
@@ -72,11 +74,11 @@ pub fn places_sound(b: BoxRecord, heaps: &[u8]) -> bool
     requires { ⌜ length (now heaps) ≡ 4096 ⌝ }
     ensures { λ r. ⌜ r ≡ placesSound b (now (heaps .entry)) ⌝ }
 {
-    if !running_taken(b) {
-        return false;
-    }
     let identities = b.identities;
     if b.taken != taken_map(identities) {
+        return false;
+    }
+    if !running_taken(b.running, b.taken) {
         return false;
     }
     heaps_sound(identities, heaps)

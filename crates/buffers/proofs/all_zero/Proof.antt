@@ -1,105 +1,93 @@
-use Prim.Native.Nat.{_+_, _/_}
-use mathlib.Core.Path.{sym, _∙_}
+use Prim.Native.Nat.{_-_, _≤_}
+use mathlib.Core.Path.{_≡_, refl, sym, _∙_}
 use native.Mathlib.Omega.{arith}
-use lib.ListN.{length}
-use lib.Seq.{length-take-le}
+use lib.ListN.{length, drop}
 use borrow.Author.Tests.{not-true, not-false}
 use borrow.Author.Needs.{needs}
-use Rattle.buffers.proofs.Loops.{quarters-cut, quarter-sizes, to-end}
+use Rattle.lists.specs.Lists.{allZero}
+use Rattle.buffers.proofs.Loops.{part-step, to-end}
 use Rattle.buffers.proofs.all_zero.Statement.{statement}
 use Rattle.buffers.proofs.all_zero.Tie as tie
 
-add-second : tie.Need-add-second
-add-second c = search needs
+-- the bytes to come are all zero just where the whole is
+abbrev Inv-loop : tie.InvT-loop
+Inv-loop s i₀ i = (i ≤ length s) × (allZero (drop i s) ≡ allZero s)
 
-add-third : tie.Need-add-third
-add-third c = search needs
+abbrev μ-loop : tie.MeasureT-loop
+μ-loop s i₀ i = length s - i
 
-add-fourth : tie.Need-add-fourth
-add-fourth c = search needs
+loop-holds : tie.Need-loop-holds Inv-loop μ-loop
+loop-holds c = (omega arith, refl)
 
-slice-aggregate-four-zero : tie.Need-slice-aggregate-four-zero
-slice-aggregate-four-zero c =
-    let s = c .before .before .args .s .now in
-    sym (length-take-le (length s / 4) s (omega arith))
+sub-loop : tie.Need-sub-loop Inv-loop μ-loop
+sub-loop c = omega arith
 
-sub-four-zero : tie.Need-sub-four-zero
-sub-four-zero c = search needs
+add-end : tie.Need-add-end Inv-loop μ-loop
+add-end c = search needs
 
-part-four-zero-start : tie.Need-part-four-zero-start
-part-four-zero-start c = search needs
+sub-part-zero : tie.Need-sub-part-zero Inv-loop μ-loop
+sub-part-zero c = search needs
 
-part-four-zero-end : tie.Need-part-four-zero-end
-part-four-zero-end c = search needs
+part-part-zero-start : tie.Need-part-part-zero-start Inv-loop μ-loop
+part-part-zero-start c = search needs
 
-sub-four-zero-2 : tie.Need-sub-four-zero-2
-sub-four-zero-2 c = search needs
+part-part-zero-end : tie.Need-part-part-zero-end Inv-loop μ-loop
+part-part-zero-end c = omega arith
 
-part-four-zero-start-2 : tie.Need-part-four-zero-start-2
-part-four-zero-start-2 c = search needs
+part-zero-requires : tie.Need-part-zero-requires Inv-loop μ-loop
+part-zero-requires c κs = search needs
 
-part-four-zero-end-2 : tie.Need-part-four-zero-end-2
-part-four-zero-end-2 c = search needs
-
-sub-four-zero-3 : tie.Need-sub-four-zero-3
-sub-four-zero-3 c = search needs
-
-part-four-zero-start-3 : tie.Need-part-four-zero-start-3
-part-four-zero-start-3 c = search needs
-
-part-four-zero-end-3 : tie.Need-part-four-zero-end-3
-part-four-zero-end-3 c = search needs
-
-four-zero-requires : tie.Need-four-zero-requires
-four-zero-requires c κs =
-    let s = c .before .before .before .before .before .args .s .now in
-    quarter-sizes (length s / 4) s (omega arith)
-
-returns : tie.Need-returns
+returns : tie.Need-returns Inv-loop μ-loop
 returns c =
-    let s = c .before .before .before .before .before .before .before .args .s .now in
-    rw (sym (c .before .four-zero .ensures) ∙ not-true _ (c .if1 .taken)) at (quarters-cut (length s / 4) s)
+    let s = c .before .before .before .before .before .before .args .s .now in
+    let l = c .before .before .before .before .loop in
+    rw (part-step s (l .i) 256, sym (c .before .part-zero .ensures) ∙ not-true _ (c .if1 .taken)) at (l .inv .1)
 
-sub-rest-zero : tie.Need-sub-rest-zero
-sub-rest-zero c = search needs
+loop-less : tie.Need-loop-less Inv-loop μ-loop
+loop-less c = omega arith
 
-part-rest-zero-start : tie.Need-part-rest-zero-start
-part-rest-zero-start c = search needs
+loop-again : tie.Need-loop-again Inv-loop μ-loop
+loop-again c =
+    let s = c .before .before .before .before .before .before .args .s .now in
+    let l = c .before .before .before .before .loop in
+    (omega arith, rw (part-step s (l .i) 256, sym (c .before .part-zero .ensures) ∙ not-false _ (c .if1 .left)) at (l .inv .1))
 
-part-rest-zero-end : tie.Need-part-rest-zero-end
-part-rest-zero-end c = search needs
+sub-part-zero-2 : tie.Need-sub-part-zero-2 Inv-loop μ-loop
+sub-part-zero-2 c = search needs
 
-rest-zero-requires : tie.Need-rest-zero-requires
-rest-zero-requires c κs = search needs
+part-part-zero-start-2 : tie.Need-part-part-zero-start-2 Inv-loop μ-loop
+part-part-zero-start-2 c = search needs
 
-returns-2 : tie.Need-returns-2
+part-part-zero-end-2 : tie.Need-part-part-zero-end-2 Inv-loop μ-loop
+part-part-zero-end-2 c = search needs
+
+part-zero-requires-2 : tie.Need-part-zero-requires-2 Inv-loop μ-loop
+part-zero-requires-2 c κs = search needs
+
+returns-2 : tie.Need-returns-2 Inv-loop μ-loop
 returns-2 c =
-    let s = c .before .before .before .before .before .before .before .before .before .args .s .now in
-    let q = length s / 4 in
-    rw (to-end s (q + q + q + q)) at (c .rest-zero .ensures)
-    ∙ rw (sym (c .before .before .before .four-zero .ensures) ∙ not-false _ (c .before .before .if1 .left)) at (quarters-cut q s)
+    let s = c .before .before .before .before .before .args .s .now in
+    let l = c .before .before .before .loop in
+    rw (to-end s (l .i)) at (c .part-zero2 .ensures) ∙ l .inv .1
 
 pub all-zero-spec : {M : Type 1} → statement M
 all-zero-spec =
     tie.close
     (tie.spec
-    add-second
-    add-third
-    add-fourth
-    slice-aggregate-four-zero
-    sub-four-zero
-    part-four-zero-start
-    part-four-zero-end
-    sub-four-zero-2
-    part-four-zero-start-2
-    part-four-zero-end-2
-    sub-four-zero-3
-    part-four-zero-start-3
-    part-four-zero-end-3
-    four-zero-requires
+    Inv-loop
+    μ-loop
+    loop-holds
+    sub-loop
+    add-end
+    sub-part-zero
+    part-part-zero-start
+    part-part-zero-end
+    part-zero-requires
     returns
-    sub-rest-zero
-    part-rest-zero-start
-    part-rest-zero-end
-    rest-zero-requires
+    loop-less
+    loop-again
+    sub-part-zero-2
+    part-part-zero-start-2
+    part-part-zero-end-2
+    part-zero-requires-2
     returns-2)

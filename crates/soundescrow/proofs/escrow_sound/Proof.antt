@@ -2,9 +2,10 @@ use mathlib.Core.Path.{sym, _∙_}
 use borrow.Author.Tests.{le-leb, lt-leb, not-true, not-false}
 use borrow.Author.Needs.{needs}
 use Rattle.lists.proofs.Bools.{and-nil}
-use Rattle.ideal.specs.Soundness.{pass}
+use Rattle.ideal.specs.Soundness.{pass, sameHandle}
+use Rattle.ideal.specs.Tables.{escrowTable}
 use Rattle.soundness.specs.Tests.{tableSound, escrowSound}
-use Rattle.buffers.proofs.Loops.{to-end}
+use Rattle.soundness.proofs.Differ.{few-differ}
 use Rattle.soundescrow.proofs.escrow_sound.Statement.{statement}
 use Rattle.soundescrow.proofs.escrow_sound.Tie as tie
 
@@ -30,60 +31,31 @@ unfolding escrowSound tableSound pass
 returns-3 c =
     rw (le-leb _ _ (c .before .before .before .before .before .before .if1 .left), le-leb _ _ (c .before .before .before .before .if2 .left), sym (c .before .rows-sound .ensures) ∙ not-true _ (c .if3 .taken))
 
-handles-differ-requires : tie.Need-handles-differ-requires
-handles-differ-requires c κs = search needs
-
 returns-4 : tie.Need-returns-4
 unfolding escrowSound tableSound pass
 returns-4 c =
+    let a = c .before .before .before .before .before .before .before .before .before .before .args in
+    rw (
+      le-leb _ _ (c .before .before .before .before .before .before .before .if1 .left),
+      le-leb _ _ (c .before .before .before .before .before .if2 .left),
+      sym (c .before .before .rows-sound .ensures) ∙ not-false _ (c .before .if3 .left),
+      few-differ escrowTable sameHandle (a .values .now) (a .rows) (a .used .rows) (c .if4 .taken),
+    )
+
+handles-differ-requires : tie.Need-handles-differ-requires
+handles-differ-requires c κs = search needs
+
+returns-5 : tie.Need-returns-5
+unfolding escrowSound tableSound pass
+returns-5 c =
     let a = c .before .before .before .before .before .before .before .before .before .before .before .args in
     rw (
       le-leb _ _ (c .before .before .before .before .before .before .before .before .if1 .left),
       le-leb _ _ (c .before .before .before .before .before .before .if2 .left),
       sym (c .before .before .before .rows-sound .ensures) ∙ not-false _ (c .before .before .if3 .left),
-      sym (c .before .handles-differ .ensures (a .values .now)) ∙ not-true _ (c .if4 .taken),
-    )
-
-rows-blank-requires : tie.Need-rows-blank-requires
-rows-blank-requires c κs = search needs
-
-returns-5 : tie.Need-returns-5
-unfolding escrowSound tableSound pass
-returns-5 c =
-    let a = c .before .before .before .before .before .before .before .before .before .before .before .before .before .args in
-    rw (
-      le-leb _ _ (c .before .before .before .before .before .before .before .before .before .before .if1 .left),
-      le-leb _ _ (c .before .before .before .before .before .before .before .before .if2 .left),
-      sym (c .before .before .before .before .before .rows-sound .ensures) ∙ not-false _ (c .before .before .before .before .if3 .left),
-      sym (c .before .before .before .handles-differ .ensures (a .values .now)) ∙ not-false _ (c .before .before .if4 .left),
-      sym (c .before .rows-blank .ensures) ∙ not-true _ (c .if5 .taken),
-    )
-
-sub-all-zero : tie.Need-sub-all-zero
-sub-all-zero c = search needs
-
-part-all-zero-start : tie.Need-part-all-zero-start
-part-all-zero-start c = search needs
-
-part-all-zero-end : tie.Need-part-all-zero-end
-part-all-zero-end c = search needs
-
-all-zero-requires : tie.Need-all-zero-requires
-all-zero-requires c κs = search needs
-
-returns-6 : tie.Need-returns-6
-unfolding escrowSound tableSound pass
-returns-6 c =
-    let a = c .before .before .before .before .before .before .before .before .before .before .before .before .before .before .before .args in
-    rw (
-      le-leb _ _ (c .before .before .before .before .before .before .before .before .before .before .before .before .if1 .left),
-      le-leb _ _ (c .before .before .before .before .before .before .before .before .before .before .if2 .left),
-      sym (c .before .before .before .before .before .before .before .rows-sound .ensures) ∙ not-false _ (c .before .before .before .before .before .before .if3 .left),
-      sym (c .before .before .before .before .before .handles-differ .ensures (a .values .now)) ∙ not-false _ (c .before .before .before .before .if4 .left),
-      sym (c .before .before .before .rows-blank .ensures) ∙ not-false _ (c .before .before .if5 .left),
       and-nil,
     )
-    (rw (to-end (a .values .now) (a .used .bytes)) at (c .all-zero .ensures))
+    (c .handles-differ .ensures (a .values .now))
 
 pub escrow-sound-spec : {M : Type 1} → statement M
 escrow-sound-spec =
@@ -95,12 +67,6 @@ escrow-sound-spec =
     cast-end
     rows-sound-requires
     returns-3
-    handles-differ-requires
     returns-4
-    rows-blank-requires
-    returns-5
-    sub-all-zero
-    part-all-zero-start
-    part-all-zero-end
-    all-zero-requires
-    returns-6)
+    handles-differ-requires
+    returns-5)

@@ -2,37 +2,28 @@ use Prim.Native.Nat.{_<_, _≤_}
 use native.Mathlib.Omega.{arith}
 use borrow.Author.Tests.{eq-eqb, ne-eqb, lt-ltb, le-ltb}
 use borrow.Author.Needs.{needs}
-use Rattle.ideal.specs.Soundness.{runningTaken}
+use Rattle.record.specs.Layout.{stands}
 use Rattle.soundplaces.proofs.running_taken.Statement.{statement}
 use Rattle.soundplaces.proofs.running_taken.Tie as tie
 
 returns : tie.Need-returns
-unfolding runningTaken
 returns c = rw (eq-eqb _ _ (c .if1 .taken))
 
 returns-2 : tie.Need-returns-2
-unfolding runningTaken
 returns-2 c =
-    let p = c .before .before .args .t1 .running in
+    let p = c .before .before .args .running in
     let h : 16 ≤ p = omega arith in
     rw (ne-eqb _ _ (c .before .if1 .left), le-ltb p 16 h)
 
-cast-place : tie.Need-cast-place
-cast-place c = search needs
-
-mul-result : tie.Need-mul-result
-mul-result c = search needs
-
-element-copy-out-result : tie.Need-element-copy-out-result
-element-copy-out-result c = search needs
+shr-result : tie.Need-shr-result
+shr-result c = search needs
 
 returns-3 : tie.Need-returns-3
-unfolding runningTaken
+unfolding stands
 returns-3 c =
-    let p = c .before .before .before .args .t1 .running in
-    let h : p < 16 = omega (arith, c .before .if2 .left, c .before .before .if1 .left) in
-    rw (ne-eqb _ _ (c .before .before .if1 .left), lt-ltb p 16 h)
+    let p = c .before .before .args .running in
+    let h : p < 16 = omega (arith, c .if2 .left, c .before .if1 .left) in
+    rw (ne-eqb _ _ (c .before .if1 .left), lt-ltb p 16 h)
 
 pub running-taken-spec : {M : Type 1} → statement M
-running-taken-spec =
-    tie.close (tie.spec returns returns-2 cast-place mul-result element-copy-out-result returns-3)
+running-taken-spec = tie.close (tie.spec returns returns-2 shr-result returns-3)

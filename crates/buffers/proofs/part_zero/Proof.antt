@@ -8,8 +8,8 @@ use lib.Seq.{drop-length}
 use Rattle.lists.specs.Lists.{every, allZero}
 use Rattle.lists.proofs.Bools.{and-assoc, and-nil}
 use Rattle.buffers.proofs.Loops.{joined, zero-step}
-use Rattle.buffers.proofs.rest_zero.Statement.{statement}
-use Rattle.buffers.proofs.rest_zero.Tie as tie
+use Rattle.buffers.proofs.part_zero.Statement.{statement}
+use Rattle.buffers.proofs.part_zero.Tie as tie
 
 -- the bytes joined so far and the bytes to come are all zero just where the whole is
 abbrev Inv-loop : tie.InvT-loop
@@ -45,7 +45,7 @@ returns c =
     let e : l .i ≡ length s = omega arith in
     sym (and-nil (eqb (l .all) 0)) ∙ rw (e, drop-length s) at (l .inv .1)
 
-pub rest-zero-spec : {M : Type 1} → statement M
-rest-zero-spec =
+pub part-zero-spec : {M : Type 1} → statement M
+part-zero-spec =
     tie.close
     (tie.spec Inv-loop μ-loop loop-holds shared-slice-read-all add-i loop-less loop-again returns)
