@@ -1,7 +1,7 @@
 //! One call on a box, by kind.
 
-use std::hint::black_box;
-use std::io;
+use std::io::{self, ErrorKind};
+use std::sync::atomic::{AtomicU64, Ordering};
 use std::time::{Duration, Instant};
 
 use differential::calls::{
@@ -9,7 +9,7 @@ use differential::calls::{
     shared_write, start,
 };
 use interface::Sides;
-use second::{Call, DRAW_LIMIT, Host, OUTPUT_SIZE, tag_of};
+use second::{tag_of, Call, Host, DRAW_LIMIT, OUTPUT_SIZE};
 
 use crate::table;
 
@@ -32,7 +32,9 @@ impl Case {
     /// the side that comes first changes from round to round.
     pub fn time(self, rounds: usize) -> io::Result<()> {
         let compared = self.sides.clone().call(&self.record);
-        compared.map_err(|message| io::Error::other(format!("{}: {message}", self.name)))?;
+        compared.map_err(|message| {
+            io::Error::new(ErrorKind::Other, format!("{}: {message}", self.name))
+        })?;
         let (mut proved, mut plain) = (Vec::new(), Vec::new());
         let mut sides = self.sides.clone();
         for round in 0..rounds {
@@ -50,16 +52,28 @@ impl Case {
     }
 }
 
+#[inline(never)]
 fn time_proved(sides: &mut Sides, record: &[u8]) -> Duration {
     let began = Instant::now();
-    black_box(sides.host.call(black_box(record)));
-    began.elapsed()
+    let reply = sides.host.call(record);
+    let took = began.elapsed();
+    keep(reply.number);
+    took
 }
 
+#[inline(never)]
 fn time_plain(sides: &mut Sides, record: &[u8]) -> Duration {
     let began = Instant::now();
-    black_box(sides.second.call(&mut sides.output, black_box(record)));
-    began.elapsed()
+    let answer = sides.second.call(&mut sides.output, record);
+    let took = began.elapsed();
+    keep(answer.number);
+    took
+}
+
+/// An answer that is kept cannot be left uncomputed.
+fn keep(number: u64) {
+    static KEPT: AtomicU64 = AtomicU64::new(0);
+    KEPT.fetch_xor(number, Ordering::Relaxed);
 }
 
 /// Every kind accepted, on a box that holds only what the kind needs and on a

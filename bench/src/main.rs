@@ -6,6 +6,8 @@
 //!
 //! BOXRUN and SECOND are programs, SCRIPT is a file to write scripts to.
 
+#![forbid(unsafe_code)]
+
 mod calls;
 mod sheets;
 mod table;
@@ -15,14 +17,21 @@ use std::{env, io};
 
 fn main() -> io::Result<ExitCode> {
     let arguments: Vec<String> = env::args().skip(1).collect();
-    let [rounds, boxrun, second, script] = &arguments[..] else {
-        eprintln!("usage: bench ROUNDS BOXRUN SECOND SCRIPT");
-        return Ok(ExitCode::from(2));
-    };
-    let Ok(rounds @ 1..) = rounds.parse::<usize>() else {
-        eprintln!("ROUNDS is a number, 1 or more");
-        return Ok(ExitCode::from(2));
-    };
+    match &arguments[..] {
+        [rounds, boxrun, second, script] => match rounds.parse() {
+            Ok(rounds @ 1..) => time(rounds, boxrun, second, script),
+            _ => refuse("ROUNDS is a number, 1 or more"),
+        },
+        _ => refuse("usage: bench ROUNDS BOXRUN SECOND SCRIPT"),
+    }
+}
+
+fn refuse(message: &str) -> io::Result<ExitCode> {
+    eprintln!("{message}");
+    Ok(ExitCode::from(2))
+}
+
+fn time(rounds: usize, boxrun: &str, second: &str, script: &str) -> io::Result<ExitCode> {
     println!("median of {rounds} rounds, both sides in each round, in microseconds\n");
     table::head();
     for case in calls::cases() {

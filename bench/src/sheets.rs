@@ -1,7 +1,7 @@
 //! The programs on the longest scripts, their sheets thrown away.
 
 use std::fs::{self, File};
-use std::io;
+use std::io::{self, ErrorKind};
 use std::process::{Command, Stdio};
 use std::time::{Duration, Instant};
 
@@ -28,7 +28,7 @@ fn time_script(
 ) -> io::Result<()> {
     fs::write(path, script)?;
     if sheet(boxrun, path)? != sheet(second, path)? {
-        return Err(io::Error::other(format!("{name}: the sheets differ")));
+        return Err(io::Error::new(ErrorKind::Other, format!("{name}: the sheets differ")));
     }
     let (mut proved, mut plain) = (Vec::new(), Vec::new());
     for round in 0..rounds {
@@ -55,5 +55,9 @@ fn run(program: &str, path: &str) -> io::Result<Duration> {
     let began = Instant::now();
     let status = command.status()?;
     let took = began.elapsed();
-    if status.success() { Ok(took) } else { Err(io::Error::other(format!("{program}: {status}"))) }
+    if status.success() {
+        Ok(took)
+    } else {
+        Err(io::Error::new(ErrorKind::Other, format!("{program}: {status}")))
+    }
 }

@@ -6,6 +6,8 @@
 //! First what has a plan: each damage, each pair of them, each wrong size. Then
 //! random boxes and records until CALLS calls are made.
 
+#![forbid(unsafe_code)]
+
 mod counts;
 mod planned;
 mod random;
@@ -17,9 +19,12 @@ use counts::Counts;
 
 fn main() -> ExitCode {
     let argument = env::args().nth(1);
-    let Some(calls) = argument.and_then(|calls| calls.parse().ok()) else {
-        eprintln!("usage: damage CALLS");
-        return ExitCode::from(2);
+    let calls = match argument.and_then(|calls| calls.parse().ok()) {
+        Some(calls) => calls,
+        None => {
+            eprintln!("usage: damage CALLS");
+            return ExitCode::from(2);
+        }
     };
     let mut counts = Counts::default();
     planned::sizes(&mut counts);

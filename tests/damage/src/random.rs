@@ -1,8 +1,8 @@
 //! Random boxes, damaged or not, random records and random writings.
 
-use differential::records::{Known, any, output_size};
-use differential::{Random, damages, play, scramble};
-use interface::{Sides, write};
+use differential::records::{any, output_size, Known};
+use differential::{damages, play, scramble, Random};
+use interface::{write, Sides};
 use second::OUTPUT_SIZE;
 
 use crate::counts::Counts;

@@ -1,6 +1,6 @@
 //! Calls in few words, and their records.
 
-use second::{Call, Draw, Handle, Tag, write_call};
+use second::{write_call, Call, Draw, Handle, Tag};
 
 pub fn create(place: u8, identity: u64) -> Call<'static> {
     Call::Create { place, identity }

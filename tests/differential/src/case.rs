@@ -59,14 +59,15 @@ impl Case {
 
     /// Adds a line to the sheet.
     pub fn line(&mut self, code: u8, number: u64, used: usize, shown: &[u8]) {
-        let Some(sheet) = &mut self.sheet else { return };
-        write!(sheet, "{code} {number} {used} ").expect("a String takes all that is written");
-        if shown.is_empty() {
-            sheet.push('-');
+        if let Some(sheet) = &mut self.sheet {
+            write!(sheet, "{code} {number} {used} ").expect("a String takes all that is written");
+            if shown.is_empty() {
+                sheet.push('-');
+            }
+            for byte in shown {
+                write!(sheet, "{byte:02x}").expect("a String takes all that is written");
+            }
+            sheet.push('\n');
         }
-        for byte in shown {
-            write!(sheet, "{byte:02x}").expect("a String takes all that is written");
-        }
-        sheet.push('\n');
     }
 }

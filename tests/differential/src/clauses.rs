@@ -2,8 +2,8 @@
 //! test can say which ones a damaged box breaks.
 
 use second::{
-    EscrowRow, HEAP_SIZE, HEAPS_SIZE, Host, LogRow, NONE_RUNS, PLACES, ROWS, SHARED_SIZE,
-    VALUE_MAX, VALUES_SIZE, tag_of,
+    tag_of, EscrowRow, Host, LogRow, HEAPS_SIZE, HEAP_SIZE, NONE_RUNS, PLACES, ROWS, SHARED_SIZE,
+    VALUES_SIZE, VALUE_MAX,
 };
 
 /// What document 01 asks of a sound box in lent buffers of their sizes. The

@@ -1,9 +1,9 @@
 //! The ways to damage a box: each clause of soundness broken, and where the box
 //! allows it no other.
 
-use second::{EscrowRow, HEAP_SIZE, Handle, Host, LogRow, PLACES, ROWS, Tag, VALUES_SIZE, tag_of};
+use second::{tag_of, EscrowRow, Handle, Host, LogRow, Tag, HEAP_SIZE, PLACES, ROWS, VALUES_SIZE};
 
-use crate::clauses::{Clause, escrow_used, log_used, taken, value};
+use crate::clauses::{escrow_used, log_used, taken, value, Clause};
 use crate::random::Random;
 
 /// One way to damage a box.
@@ -127,16 +127,17 @@ fn add_places(add: &mut Add) {
 
 /// Does it at the index, if there is one. Says whether it did.
 fn at(index: Option<usize>, mut change: impl FnMut(usize)) -> bool {
-    index.is_some_and(|index| {
-        change(index);
-        true
-    })
+    index.map(|index| change(index)).is_some()
 }
 
 /// A place of which this holds.
 fn place_where(host: &Host, random: &mut Random, holds: fn(&Host, usize) -> bool) -> Option<usize> {
     let places: Vec<usize> = (0..PLACES).filter(|&place| holds(host, place)).collect();
-    if places.is_empty() { None } else { Some(random.pick(&places)) }
+    if places.is_empty() {
+        None
+    } else {
+        Some(random.pick(&places))
+    }
 }
 
 /// Empty.
@@ -157,7 +158,7 @@ fn heap(host: &mut Host, place: usize) -> &mut [u8] {
 /// Sets a byte in an empty place's heap.
 fn heap_byte(host: &mut Host, random: &mut Random, byte: usize) -> bool {
     let place = place_where(host, random, free);
-    place.is_some_and(|place| set_byte(heap(host, place), byte, random))
+    place.map_or(false, |place| set_byte(heap(host, place), byte, random))
 }
 
 /// Makes a zero byte another. Says whether there was one.
@@ -211,9 +212,11 @@ fn add_counts(add: &mut Add) {
 /// whether there was a row left.
 fn add_log_row(host: &mut Host, identity: u64, value: &[u8]) -> bool {
     let (rows, first) = (log_used(host), host.record.log_bytes);
-    let Some(row) = host.log.get_mut(rows) else { return false };
     let length = value.len() as u16;
-    *row = LogRow { identity, tag: tag_of(identity, value), first, length };
+    match host.log.get_mut(rows) {
+        Some(row) => *row = LogRow { identity, tag: tag_of(identity, value), first, length },
+        None => return false,
+    }
     let room = host.log_values.iter_mut().skip(usize::from(first));
     room.zip(value).for_each(|(byte, new)| *byte = *new);
     host.record.log_rows = rows as u16 + 1;
@@ -225,9 +228,11 @@ fn add_log_row(host: &mut Host, identity: u64, value: &[u8]) -> bool {
 /// left. The value stays zero.
 fn add_escrow_row(host: &mut Host, draw: u64, length: u16) -> bool {
     let (rows, first) = (escrow_used(host), host.record.escrow_bytes);
-    let Some(row) = host.escrow.get_mut(rows) else { return false };
     let handle = Handle((u64::from(length) << 48) + draw);
-    *row = EscrowRow { source: 3, recipient: 4, handle, first, length };
+    match host.escrow.get_mut(rows) {
+        Some(row) => *row = EscrowRow { source: 3, recipient: 4, handle, first, length },
+        None => return false,
+    }
     host.record.escrow_rows = rows as u16 + 1;
     host.record.escrow_bytes = first.saturating_add(length);
     true
@@ -330,23 +335,27 @@ fn fits(used: u16, length: u16) -> bool {
 
 /// The last used byte becomes an unused zero, the last row keeps its length.
 fn one_log_byte_fewer(host: &mut Host, _: &mut Random) -> bool {
-    let Some(last) = (0..log_used(host)).rfind(|&n| host.log[n].length > 0) else { return false };
+    let last = (0..log_used(host)).rfind(|&n| host.log[n].length > 0);
     let end = usize::from(host.record.log_bytes);
-    let Some(byte) = end.checked_sub(1).and_then(|end| host.log_values.get_mut(end)) else {
-        return false;
-    };
-    *byte = 0;
-    host.record.log_bytes -= 1;
-    retag(host, last);
-    true
+    let byte = end.checked_sub(1).and_then(|end| host.log_values.get_mut(end));
+    match (last, byte) {
+        (Some(last), Some(byte)) => {
+            *byte = 0;
+            host.record.log_bytes -= 1;
+            retag(host, last);
+            true
+        }
+        _ => false,
+    }
 }
 
 fn pair_again(host: &mut Host, random: &mut Random) -> bool {
-    let Some(n) = used_log_row(host, random) else { return false };
-    let LogRow { identity, first, length, .. } = host.log[n];
-    let Some(value) = value(&host.log_values, first, length) else { return false };
-    let value = value.to_vec();
-    fits(host.record.log_bytes, length) && add_log_row(host, identity, &value)
+    let row = used_log_row(host, random).map(|n| host.log[n]);
+    row.map_or(false, |LogRow { identity, first, length, .. }| {
+        let value = value(&host.log_values, first, length).map(<[u8]>::to_vec);
+        fits(host.record.log_bytes, length)
+            && value.map_or(false, |value| add_log_row(host, identity, &value))
+    })
 }
 
 fn add_escrow_spans(add: &mut Add) {
@@ -419,10 +428,11 @@ fn add_escrow_rows(add: &mut Add) {
 
 /// Adds a row with the handle of another.
 fn handle_again(host: &mut Host, random: &mut Random) -> bool {
-    let Some(n) = used_escrow_row(host, random) else { return false };
-    let EscrowRow { handle, length, .. } = host.escrow[n];
-    let draw = handle.0 & ((1 << 48) - 1);
-    fits(host.record.escrow_bytes, length) && add_escrow_row(host, draw, length)
+    let row = used_escrow_row(host, random).map(|n| host.escrow[n]);
+    row.map_or(false, |EscrowRow { handle, length, .. }| {
+        let draw = handle.0 & ((1 << 48) - 1);
+        fits(host.record.escrow_bytes, length) && add_escrow_row(host, draw, length)
+    })
 }
 
 fn add_unused_rows(add: &mut Add) {

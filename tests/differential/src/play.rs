@@ -2,8 +2,8 @@
 //! are acceptable, so that full logs and escrows are reached.
 
 use second::{
-    Answer, Call, DRAW_LIMIT, HEAP_SIZE, Host, OUTPUT_SIZE, PLACES, SHARED_SIZE, SoundBox,
-    VALUES_SIZE, read, tag_of,
+    read, tag_of, Answer, Call, Host, SoundBox, DRAW_LIMIT, HEAP_SIZE, OUTPUT_SIZE, PLACES,
+    SHARED_SIZE, VALUES_SIZE,
 };
 
 use crate::calls::{
@@ -12,7 +12,7 @@ use crate::calls::{
 };
 use crate::random::Random;
 use crate::records::{self, Known};
-use crate::style::{STYLES, Style};
+use crate::style::{Style, STYLES};
 
 /// A script and the sound box that it leads to, but for its last records: up to
 /// two of them may be anything, malformed too.
@@ -234,7 +234,11 @@ impl<'a> Player<'a> {
     fn place_where(&mut self, holds: fn(u64) -> bool) -> Option<u8> {
         let places: Vec<u8> =
             (0..PLACES as u8).filter(|&place| holds(self.places[usize::from(place)])).collect();
-        if places.is_empty() { None } else { Some(self.random.pick(&places)) }
+        if places.is_empty() {
+            None
+        } else {
+            Some(self.random.pick(&places))
+        }
     }
 
     /// Half of the writes fill a good part of the heap.
@@ -273,7 +277,11 @@ impl<'a> Player<'a> {
     /// An offset where the length fits, one time in four at the very end.
     fn offset(&mut self, size: usize, length: u16) -> u16 {
         let last = size as u16 - length;
-        if self.random.once_in(4) { last } else { self.random.between(0, last) }
+        if self.random.once_in(4) {
+            last
+        } else {
+            self.random.between(0, last)
+        }
     }
 
     /// A value's length. When few bytes are left in the table it sometimes takes
@@ -344,7 +352,7 @@ impl<'a> Player<'a> {
 #[cfg(test)]
 mod tests {
     use super::*;
-    use second::{ROWS, is_sound, sheet};
+    use second::{is_sound, sheet, ROWS};
 
     /// The boxes are sound, scripts come out the same each time, and the tables
     /// are filled to the last row and byte.

@@ -1,7 +1,7 @@
 //! Record bytes made with no regard to what a call on them would answer, and
 //! sizes of output buffers.
 
-use second::{DRAW_LIMIT, Fields, HEAP_SIZE, Host, OUTPUT_SIZE, SHARED_SIZE, write};
+use second::{write, Fields, Host, DRAW_LIMIT, HEAP_SIZE, OUTPUT_SIZE, SHARED_SIZE};
 
 use crate::random::Random;
 
@@ -138,13 +138,17 @@ pub const WRONG_OUTPUT_SIZES: [usize; 7] = [0, 1, 256, 1_023, 1_025, 2_048, 4_09
 
 /// Mostly the right size.
 pub fn output_size(random: &mut Random) -> usize {
-    if random.once_in(8) { random.pick(&WRONG_OUTPUT_SIZES) } else { OUTPUT_SIZE }
+    if random.once_in(8) {
+        random.pick(&WRONG_OUTPUT_SIZES)
+    } else {
+        OUTPUT_SIZE
+    }
 }
 
 #[cfg(test)]
 mod tests {
     use super::*;
-    use second::{Refusal, read};
+    use second::{read, Refusal};
 
     /// Whole records read whole; the others meet each of the reader's refusals.
     #[test]

@@ -9,9 +9,10 @@ use second::sheet;
 fn second_prints_what_was_written_by_hand() {
     let mut by_hand = 0;
     for case in cases::all() {
-        let Some(written) = case.sheet else { continue };
-        assert!(sheet(&case.script) == written.as_bytes(), "{}", case.name);
-        by_hand += 1;
+        if let Some(written) = case.sheet {
+            assert!(sheet(&case.script) == written.as_bytes(), "{}", case.name);
+            by_hand += 1;
+        }
     }
     assert!(by_hand > 5_000, "{by_hand}");
 }

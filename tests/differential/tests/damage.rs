@@ -2,9 +2,9 @@
 //! damaged box and alters nothing.
 
 use differential::calls::{attest, create, record_of};
-use differential::records::{Known, WRONG_OUTPUT_SIZES, any, output_size};
-use differential::{Clause, Random, bases, broken, damages, pairs, play, scramble};
-use second::{Answer, Call, Host, OUTPUT_SIZE, call, is_sound};
+use differential::records::{any, output_size, Known, WRONG_OUTPUT_SIZES};
+use differential::{bases, broken, damages, pairs, play, scramble, Clause, Random};
+use second::{call, is_sound, Answer, Call, Host, OUTPUT_SIZE};
 
 const REFUSED: Answer = Answer { code: 15, number: 0, used: 0, shown: 0 };
 

@@ -1,26 +1,30 @@
 //! One input of the fuzzer: a box, alterations of it, and records. The proved
 //! box and `second` must agree after each call.
 
+#![deny(unsafe_op_in_unsafe_fn)]
+
 use std::slice;
-use std::sync::LazyLock;
 
 use differential::records::WRONG_OUTPUT_SIZES;
 use differential::{bases, play};
-use interface::{Fields, Sides, write};
-use second::{Call, EscrowRow, Host, LogRow, OUTPUT_SIZE, ROWS, read};
+use interface::{write, Fields, Sides};
+use second::{read, Call, EscrowRow, Host, LogRow, OUTPUT_SIZE, ROWS};
 
-static BOXES: LazyLock<Vec<Host>> =
-    LazyLock::new(|| bases().into_iter().chain((0..12).map(|seed| play(seed).host)).collect());
+thread_local! {
+    static BOXES: Vec<Host> =
+        bases().into_iter().chain((0..12).map(|seed| play(seed).host)).collect();
+}
 
 /// # Safety
 ///
 /// `data` leads to `size` bytes.
-#[unsafe(no_mangle)]
+#[no_mangle]
 pub unsafe extern "C" fn LLVMFuzzerTestOneInput(data: *const u8, size: usize) -> i32 {
     // SAFETY: libFuzzer says so.
     let mut input =
         Input(if size == 0 { &[] } else { unsafe { slice::from_raw_parts(data, size) } });
-    let mut host = BOXES[input.byte() % BOXES.len()].clone();
+    let first = input.byte();
+    let mut host = BOXES.with(|boxes| boxes[first % boxes.len()].clone());
     let output = *WRONG_OUTPUT_SIZES.get(255 - input.byte()).unwrap_or(&OUTPUT_SIZE);
     for _ in 0..input.byte() % 4 {
         alter(&mut host, &mut input);
@@ -34,9 +38,10 @@ struct Input<'a>(&'a [u8]);
 
 impl Input<'_> {
     fn byte(&mut self) -> usize {
-        let Some((&first, rest)) = self.0.split_first() else { return 0 };
-        self.0 = rest;
-        usize::from(first)
+        self.0.split_first().map_or(0, |(&first, rest)| {
+            self.0 = rest;
+            usize::from(first)
+        })
     }
 
     fn word(&mut self) -> usize {

@@ -1,6 +1,6 @@
 //! Document 01's example, and then every other kind of call.
 
-use interface::{BoxRecord, EscrowRow, Fields, Host, LogRow, Tally, Used, fresh, write};
+use interface::{fresh, write, BoxRecord, EscrowRow, Fields, Host, LogRow, Tally, Used};
 
 /// The handle of length 1 and draw 7.
 const HANDLE: u64 = 281_474_976_710_663;

@@ -1,5 +1,7 @@
 //! A host in Rust. All that is expected is written by hand.
 
+#![forbid(unsafe_code)]
+
 mod calls;
 mod layout;
 mod refusals;

@@ -1,6 +1,6 @@
 //! Refusals through the header. Each alters nothing.
 
-use interface::{Buffer, Fields, Host, Tally, Written, write};
+use interface::{write, Buffer, Fields, Host, Tally, Written};
 
 use crate::calls::after_example;
 

@@ -70,8 +70,8 @@ pub struct Written {
     pub length: usize,
 }
 
-unsafe extern "C" {
-    safe fn caif_fresh() -> BoxRecord;
+extern "C" {
+    fn caif_fresh() -> BoxRecord;
 
     fn caif_call(
         held: BoxRecord,
@@ -116,7 +116,8 @@ pub(crate) struct Lent<'a> {
 
 /// The box record of a fresh box.
 pub fn fresh() -> BoxRecord {
-    caif_fresh()
+    // SAFETY: it takes nothing, and no state is shared.
+    unsafe { caif_fresh() }
 }
 
 /// One call.

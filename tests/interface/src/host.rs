@@ -2,7 +2,7 @@
 
 use second::{Answer, OUTPUT_SIZE};
 
-use crate::declared::{BoxRecord, EscrowRow, Lent, LogRow, Reply, Used, call, fresh};
+use crate::declared::{call, fresh, BoxRecord, EscrowRow, Lent, LogRow, Reply, Used};
 
 /// So many elements before and behind a lent buffer must stand as they were.
 const GUARD: usize = 4;
@@ -232,7 +232,7 @@ impl Sides {
         if let Some(part) = self.host.differs(&self.second, &self.output) {
             return Err(format!("{part}: not as second has it, after code {code}"));
         }
-        if before.is_some_and(|before| before != self.host) {
+        if before.map_or(false, |before| before != self.host) {
             return Err(format!("refusal {code} altered something"));
         }
         Ok(answer)

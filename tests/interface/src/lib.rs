@@ -5,6 +5,6 @@ mod declared;
 mod host;
 mod tally;
 
-pub use declared::{BoxRecord, EscrowRow, Fields, LogRow, Reply, Used, Written, fresh, write};
+pub use declared::{fresh, write, BoxRecord, EscrowRow, Fields, LogRow, Reply, Used, Written};
 pub use host::{Buffer, Host, Sides};
 pub use tally::Tally;

@@ -4,13 +4,13 @@
 use std::ops::Range;
 
 use crate::answer::{Answer, Refusal};
-use crate::record::{Call, read};
+use crate::record::{read, Call};
 use crate::sound::is_sound;
 use crate::tables::{
-    BoxRecord, EscrowRow, HEAP_SIZE, HEAPS_SIZE, Identity, LogRow, NONE_RUNS, OUTPUT_SIZE, PLACES,
-    Place, ROWS, SHARED_SIZE, Tables, VALUES_SIZE,
+    BoxRecord, EscrowRow, Identity, LogRow, Place, Tables, HEAPS_SIZE, HEAP_SIZE, NONE_RUNS,
+    OUTPUT_SIZE, PLACES, ROWS, SHARED_SIZE, VALUES_SIZE,
 };
-use crate::tags::{DRAW_LIMIT, Draw, Handle, Tag, free_handle, tag_of};
+use crate::tags::{free_handle, tag_of, Draw, Handle, Tag, DRAW_LIMIT};
 
 /// Reads a record and makes its call. A lent buffer of a wrong size or an
 /// unsound box is refused first, with 15.
@@ -308,19 +308,31 @@ fn sized<T, const N: usize>(lent: &mut [T]) -> Result<&mut [T; N], Refusal> {
 /// The place when it is at most 15, or refusal 6.
 fn index_of(place: Place) -> Result<usize, Refusal> {
     let index = usize::from(place);
-    if index < PLACES { Ok(index) } else { Err(Refusal::NoSuchPlace) }
+    if index < PLACES {
+        Ok(index)
+    } else {
+        Err(Refusal::NoSuchPlace)
+    }
 }
 
 /// Refusal 9 when the identity is 0.
 fn non_zero(identity: Identity) -> Result<(), Refusal> {
-    if identity == 0 { Err(Refusal::ZeroIdentity) } else { Ok(()) }
+    if identity == 0 {
+        Err(Refusal::ZeroIdentity)
+    } else {
+        Ok(())
+    }
 }
 
 /// The part of `length` bytes at `offset`, or refusal 11 when it is beyond `size`.
 fn part(offset: u16, length: usize, size: usize) -> Result<Range<usize>, Refusal> {
     let first = usize::from(offset);
     let end = first + length;
-    if end > size { Err(Refusal::Beyond) } else { Ok(first..end) }
+    if end > size {
+        Err(Refusal::Beyond)
+    } else {
+        Ok(first..end)
+    }
 }
 
 fn heap_of(heaps: &[u8; HEAPS_SIZE], place: usize) -> &[u8] {

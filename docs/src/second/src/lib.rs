@@ -2,6 +2,8 @@
 //! escrow, worked by thirteen calls. A second program, written from that
 //! document alone.
 
+#![forbid(unsafe_code)]
+
 mod answer;
 mod calls;
 mod record;
@@ -11,12 +13,12 @@ mod tables;
 mod tags;
 
 pub use answer::{Answer, Refusal};
-pub use calls::{SoundBox, call};
-pub use record::{Call, Fields, Kind, Written, read, write, write_call};
-pub use sheet::{HEADER, SCRIPT_MAX, sheet};
+pub use calls::{call, SoundBox};
+pub use record::{read, write, write_call, Call, Fields, Kind, Written};
+pub use sheet::{sheet, HEADER, SCRIPT_MAX};
 pub use sound::{has_its_sizes, is_sound};
 pub use tables::{
-    BoxRecord, EscrowRow, HEAP_SIZE, HEAPS_SIZE, Host, Identity, LogRow, NONE_RUNS, OUTPUT_SIZE,
-    PLACES, Place, ROWS, SHARED_SIZE, Tables, VALUE_MAX, VALUES_SIZE,
+    BoxRecord, EscrowRow, Host, Identity, LogRow, Place, Tables, HEAPS_SIZE, HEAP_SIZE, NONE_RUNS,
+    OUTPUT_SIZE, PLACES, ROWS, SHARED_SIZE, VALUES_SIZE, VALUE_MAX,
 };
-pub use tags::{DRAW_LIMIT, Draw, Handle, Tag, fnv1a, tag_of};
+pub use tags::{fnv1a, tag_of, Draw, Handle, Tag, DRAW_LIMIT};

@@ -4,9 +4,11 @@
 //! fails. Here every sheet printed whole ends with status 0, and an error of
 //! the system's is reported on standard error with status 1.
 
+#![forbid(unsafe_code)]
+
 use std::io::{self, Read, Write};
 
-use second::{SCRIPT_MAX, sheet};
+use second::{sheet, SCRIPT_MAX};
 
 fn main() -> io::Result<()> {
     // One byte over the limit is enough to know a script too long.

@@ -199,16 +199,14 @@ struct Rest<'a>(&'a [u8]);
 impl<'a> Rest<'a> {
     /// The next `count` bytes, or refusal 1.
     fn take(&mut self, count: usize) -> Result<&'a [u8], Refusal> {
-        let (taken, rest) = self.0.split_at_checked(count).ok_or(Refusal::Cut)?;
-        self.0 = rest;
+        let taken = self.0.get(..count).ok_or(Refusal::Cut)?;
+        self.0 = &self.0[count..];
         Ok(taken)
     }
 
     /// The next `N` bytes as an array, or refusal 1.
     fn array<const N: usize>(&mut self) -> Result<[u8; N], Refusal> {
-        let (taken, rest) = self.0.split_first_chunk().ok_or(Refusal::Cut)?;
-        self.0 = rest;
-        Ok(*taken)
+        self.take(N)?.try_into().map_err(|_| Refusal::Cut)
     }
 
     fn u8(&mut self) -> Result<u8, Refusal> {

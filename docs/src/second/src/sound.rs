@@ -2,8 +2,8 @@
 //! before it.
 
 use crate::tables::{
-    BoxRecord, EscrowRow, HEAP_SIZE, HEAPS_SIZE, LogRow, NONE_RUNS, PLACES, ROWS, SHARED_SIZE,
-    Tables, VALUE_MAX, VALUES_SIZE,
+    BoxRecord, EscrowRow, LogRow, Tables, HEAPS_SIZE, HEAP_SIZE, NONE_RUNS, PLACES, ROWS,
+    SHARED_SIZE, VALUES_SIZE, VALUE_MAX,
 };
 use crate::tags::tag_of;
 
@@ -130,10 +130,10 @@ fn unused_values_are_zero(values: &[u8], bytes_used: u16) -> bool {
 #[cfg(test)]
 mod tests {
     use super::*;
-    use crate::record::{Call, write_call};
+    use crate::record::{write_call, Call};
     use crate::tables::{Host, OUTPUT_SIZE};
-    use crate::tags::{DRAW_LIMIT, Draw, Handle, Tag};
-    use crate::{Answer, call};
+    use crate::tags::{Draw, Handle, Tag, DRAW_LIMIT};
+    use crate::{call, Answer};
 
     fn make(host: &mut Host, call: Call) {
         let mut record = [0; 600];

@@ -14,8 +14,8 @@ use std::io::{self, ErrorKind, Write};
 use std::process::{Command, ExitCode, Stdio};
 use std::{env, thread};
 
-use differential::{Case, cases, play};
-use second::{ROWS, VALUES_SIZE, sheet};
+use differential::{cases, play, Case};
+use second::{sheet, ROWS, VALUES_SIZE};
 
 const COUNT: u64 = 2_400;
 
@@ -24,15 +24,15 @@ const PRINTED: u64 = 10;
 
 fn main() -> ExitCode {
     let mut arguments = env::args_os().skip(1);
-    let Some(program) = arguments.next() else {
-        eprintln!("usage: scripts PROGRAM [COUNT [FIRST_SEED]]");
-        return ExitCode::from(2);
-    };
+    let program = arguments.next();
     let count = arguments.next().map_or(Some(COUNT), number);
     let first = arguments.next().map_or(Some(0), number);
-    let (Some(count), Some(first)) = (count, first) else {
-        eprintln!("COUNT and FIRST_SEED are numbers");
-        return ExitCode::from(2);
+    let (program, count, first) = match (program, count, first) {
+        (Some(program), Some(count), Some(first)) => (program, count, first),
+        _ => {
+            eprintln!("usage: scripts PROGRAM [COUNT [FIRST_SEED]], the last two numbers");
+            return ExitCode::from(2);
+        }
     };
     let mut marker = Marker::default();
     for case in cases::all() {
@@ -182,7 +182,11 @@ impl Full {
 
     fn everywhere(&self) -> Result<(), String> {
         let counts = [self.log_rows, self.log_bytes, self.escrow_rows, self.escrow_bytes];
-        if counts.iter().all(|&count| count > 0) { Ok(()) } else { Err(self.to_string()) }
+        if counts.iter().all(|&count| count > 0) {
+            Ok(())
+        } else {
+            Err(self.to_string())
+        }
     }
 }
 
@@ -216,7 +220,7 @@ fn run(program: &OsStr, script: &[u8]) -> io::Result<Vec<u8>> {
     let output = output?;
     match output.status.code() {
         Some(_) => Ok(output.stdout),
-        None => Err(io::Error::other(output.status.to_string())),
+        None => Err(io::Error::new(ErrorKind::Other, output.status.to_string())),
     }
 }
 

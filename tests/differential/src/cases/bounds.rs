@@ -1,6 +1,6 @@
 //! Offsets, lengths, counts and places at their limits.
 
-use second::{Call, tag_of};
+use second::{tag_of, Call};
 
 use super::{first_fault, handle, switch, three_services};
 use crate::calls::{

@@ -1,6 +1,6 @@
 //! Document 01's example and its exam cases.
 
-use second::{Call, tag_of};
+use second::{tag_of, Call};
 
 use super::{handle, switch, three_services};
 use crate::calls::{attest, check, create, heap_read, heap_write, protect, retrieve};

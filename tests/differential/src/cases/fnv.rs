@@ -11,8 +11,8 @@ pub fn cases() -> Vec<Case> {
 }
 
 fn case(bytes: &[u8], hash: u64) -> Case {
-    let (front, value) = bytes.split_first_chunk().expect("a vector has eight bytes");
-    let identity = u64::from_le_bytes(*front);
+    let (front, value) = bytes.split_at(8);
+    let identity = u64::from_le_bytes(front.try_into().expect("eight bytes"));
     let (offset, length) = (40, value.len() as u16);
     let mut case = Case::new(format!("FNV-1a of {}", bytes.escape_ascii()));
     case.accept(6, create(6, identity));

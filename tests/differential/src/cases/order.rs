@@ -1,7 +1,7 @@
 //! Several faults at once: the lowest number is given. Every set of faults that
 //! a kind can have is tried, and the box is shown unaltered at the end.
 
-use second::{Call, tag_of};
+use second::{tag_of, Call};
 
 use super::{first_fault, handle, switch, three_services};
 use crate::calls::{

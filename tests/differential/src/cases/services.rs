@@ -1,6 +1,6 @@
 //! Places, heaps, logs and escrows as services come and go; the marker's traps.
 
-use second::{Call, tag_of};
+use second::{tag_of, Call};
 
 use super::{handle, switch, three_services};
 use crate::calls::{
