@@ -1,4 +1,5 @@
-// FNV-1a vectors of 64 bits, run on the proved library. `stdout` has their values (docs/DECISIONS.md, the vectors).
+// FNV-1a vectors of 64 bits, run on the proved library. `stdout` has their values: five were given from outside, and the
+// others are computed (docs/DECISIONS.md, "FNV's vectors").
 ghost use mathlib.Core.Path.{_≡_};
 ghost use Rattle.vectors.specs.Lines.{lineOf};
 use libc::STDOUT_FILENO;

@@ -67,9 +67,9 @@ pub(crate) fn free_handle(rows: &[EscrowRow], length: u16, draw: Draw) -> Handle
 mod tests {
     use super::*;
 
-    /// From FNV's published list of test vectors.
+    /// Where the values come from: docs/DECISIONS.md, 3.
     #[test]
-    fn fnv_published_vectors() {
+    fn fnv_vectors() {
         let vectors: [(&[u8], u64); 16] = [
             (b"", 0xcbf2_9ce4_8422_2325),
             (b"a", 0xaf63_dc4c_8601_ec8c),

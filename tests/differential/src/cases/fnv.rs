@@ -1,4 +1,4 @@
-//! FNV's published vectors of eight bytes and more: the first eight bytes are
+//! FNV-1a vectors of eight bytes and more, computed: the first eight bytes are
 //! the identity, lowest first, and the others the value attested.
 
 use second::Call;
@@ -26,8 +26,8 @@ fn case(bytes: &[u8], hash: u64) -> Case {
     case
 }
 
-/// 64-bit FNV-1a vectors of the list that comes with FNV's source, written from memory and kept where a computation of
-/// FNV-1a agreed (docs/DECISIONS.md, the vectors).
+/// Texts like those of the list that comes with FNV's source. The hashes are computed: none was given from outside
+/// (docs/DECISIONS.md, "FNV's vectors").
 const VECTORS: [(&[u8], u64); 64] = [
     (b"chongo w", 0xd1ed_d10b_5073_44d0),
     (b"chongo wa", 0x2a5e_e739_b3dd_b8c3),
