@@ -32,11 +32,13 @@ fn refuse(message: &str) -> io::Result<ExitCode> {
 }
 
 fn time(rounds: usize, boxrun: &str, second: &str, script: &str) -> io::Result<ExitCode> {
-    println!("median of {rounds} rounds, both sides in each round, in microseconds\n");
+    let sheet_rounds = (rounds / 20).max(1);
+    println!("medians of {rounds} rounds, of {sheet_rounds} for a sheet, in microseconds;");
+    println!("both sides in each round\n");
     table::head();
     for case in calls::cases() {
         case.time(rounds)?;
     }
-    sheets::time((rounds / 20).max(1), boxrun, second, script)?;
+    sheets::time(sheet_rounds, boxrun, second, script)?;
     Ok(ExitCode::SUCCESS)
 }
