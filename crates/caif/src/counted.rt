@@ -1,46 +1,26 @@
-// A call on rows that were copied from a host.
-ghost use Rattle.caif.specs.Counted.{CalledOn};
-use calls::call;
+// Lent rows of another count than 64.
+ghost use mathlib.Core.Path.{_≡_};
+ghost use Rattle.state.specs.Answers.{refusedWith};
+ghost use Rattle.caif.specs.Counted.{rowsLost};
+use crate::LentReply;
 use ideal::BoxRecord;
-use state::Change;
-use state::EscrowTable;
-use state::LogTable;
-use state::refuse;
+use state::refused;
 
-// One record: refused where the lent rows are not 64, whatever was copied of them.
-pub fn call_counted(
-    held: BoxRecord,
-    log: LogTable,
-    log_count: usize,
-    escrow: EscrowTable,
-    escrow_count: usize,
-    heaps: &mut [u8],
-    shared: &mut [u8],
-    log_values: &mut [u8],
-    escrow_values: &mut [u8],
-    output: &mut [u8],
-    bytes: &[u8],
-) -> Change
-    ensures { λ r. ⌜
-        CalledOn held log «log_count» escrow «escrow_count» (now (heaps .entry)) (now (shared .entry)) (now («log_values» .entry)) (now («escrow_values» .entry)) (now (output .entry))
-        (now (bytes .entry)) r (now (heaps .exit)) (now (shared .exit)) (now («log_values» .exit)) (now («escrow_values» .exit)) (now (output .exit))
-        ⌝ }
+// Whether the log's rows or the escrow's are not 64.
+pub fn lost(log: usize, escrow: usize) -> bool
+    ensures { λ r. ⌜ r ≡ rowsLost log escrow ⌝ }
 {
-    if log_count != 64 {
-        return refuse(held, 15);
+    if log != 64 {
+        return true;
     }
-    if escrow_count != 64 {
-        return refuse(held, 15);
-    }
-    call(
+    escrow != 64
+}
+
+pub fn refused_rows(held: BoxRecord) -> LentReply
+    ensures { λ r. ⌜ r ≡ record { held = held; answer = refusedWith 15 } ⌝ }
+{
+    LentReply {
         held,
-        log,
-        escrow,
-        heaps,
-        shared,
-        log_values,
-        escrow_values,
-        output,
-        bytes,
-    )
+        answer: refused(15),
+    }
 }

@@ -7,14 +7,16 @@ ghost use mathlib.Core.Path.{_≡_};
 ghost use Rattle.ideal.specs.Tables.{freshTables};
 ghost use Rattle.calls.specs.Entry.{entryOn};
 ghost use Rattle.caif.specs.Lent.{lentTables, lentResult};
-use counted::call_counted;
+use calls::call;
+use counted::lost;
+use counted::refused_rows;
 use ideal::BoxRecord;
 use ideal::EscrowRow;
 use ideal::LogRow;
 use lent::edit_escrow;
 use lent::edit_log;
-use lent::read_escrow;
-use lent::read_log;
+use rows::copy_escrow;
+use rows::copy_log;
 use state::Answer;
 use state::fresh_record;
 pub use writing::caif_write;
@@ -60,14 +62,16 @@ pub extern "C" fn caif_call(
         (now (bytes .entry)) (now (output .entry))
         ⌝ }
 {
-    let l = read_log(&*log);
-    let e = read_escrow(&*escrow);
-    let c = call_counted(
+    // Before the copies: a table that is copied in one arm and made in another is moved at every use.
+    if lost(log.len(), escrow.len()) {
+        return refused_rows(held);
+    }
+    let l = copy_log(&*log);
+    let e = copy_escrow(&*escrow);
+    let c = call(
         held,
         l,
-        log.len(),
         e,
-        escrow.len(),
         heaps,
         shared,
         log_values,
