@@ -1,10 +1,10 @@
--- The box record, the memories and the counts are those that the accepted calls since a fresh box say, and so are the
+-- The box record, the memories and the tables are those that the accepted calls since a fresh box say, and so are the
 -- answers of reads and of the report. Assumes nothing.
 use Prim.Native.Nat.{ℕ, zero, suc, _+_, _*_}
 use mathlib.Core.Path.{_≡_, refl, sym, ap, _∙_}
 use mathlib.Core.List.{List, [], _∷_}
 use native.Mathlib.Omega.{arith}
-use lib.ListN.{length, take}
+use lib.ListN.{length, getD, take}
 use lib.Dec.{eqb, eqb·suc-zero}
 use borrow.Author.Tests.{ltb-false, eqb-true, not-false}
 use Rattle.record.specs.Call.{Call, heapRead, sharedRead, report}
@@ -19,7 +19,8 @@ use Rattle.lists.proofs.Bools.{by-cases}
 use Rattle.ideal.proofs.Chain.{failed, passed}
 use Rattle.ideal.specs.Valid.{Valid}
 use Rattle.ideal.proofs.Kept.{busy, own-size}
-use Rattle.ideal.proofs.Laid.{stepElement, valid-fresh, valid-step, fresh-tables, call-is}
+use Rattle.ideal.proofs.Laid.{sound-tables, stepElement, valid-fresh, valid-step, fresh-tables, call-is}
+use Rattle.ideal.proofs.Hosted.{logged-is, escrowed-is}
 use Rattle.ideal.proofs.Memory.{part-at, flat-at, taken-at, ones-taken}
 use Rattle.ideal.proofs.OwnHeap.{sized}
 use Rattle.ideal.proofs.Table.{part-length}
@@ -43,6 +44,18 @@ tables-past s past k h =
       logBytes = ap bytesUsed (h .log);
       escrowRows = ap length (h .escrow);
       escrowBytes = ap bytesUsed (h .escrow);
+      log = λ j d b.
+          let is = logged-is s k d j (omega (arith, ap length (h .log))) ∙ ap (λ l. getD l j d) (h .log) in
+          record { identity = ap (λ e. e .key .identity) is; tag = ap (λ e. e .key .tag) is; value = ap (λ e. e .value) is };
+      escrow = λ j d b.
+          let is = escrowed-is s k d j (omega (arith, ap length (h .escrow))) ∙ ap (λ l. getD l j d) (h .escrow) in
+          record {
+            source = ap (λ e. e .key .source) is;
+            recipient = ap (λ e. e .key .recipient) is;
+            handle = ap (λ e. e .key .handle) is;
+            value = ap (λ e. e .value) is;
+          };
+      sound = sound-tables s k;
     }
 
 -- ---- an element on the state

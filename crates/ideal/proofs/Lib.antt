@@ -24,6 +24,7 @@ pub mod Runs
 pub mod Numbers
 pub mod Accepts
 pub mod Past
+pub mod Hosted
 pub mod Histories
 pub mod Since
 pub mod Logs
@@ -32,7 +33,6 @@ pub mod Checks
 pub mod Retrieves
 pub mod Handles
 pub mod Accurate
-pub mod Hosted
 pub mod TwoRuns
 pub mod TwoSteps
 pub mod Secret
