@@ -32,7 +32,7 @@ check-named : (s : State) (i : ℕ) (g : Tag) (v : List ℕ) → refusal s (chec
 unfolding refusal tests
 check-named s i g v h = eqb-false i 0 (failed 8 _ _ h)
 
-check-number : (s : State) (i : ℕ) (g : Tag) (v : List ℕ) → number s (check i g v) ≡ cond (logged i g v (s .log)) 1 0
+pub check-number : (s : State) (i : ℕ) (g : Tag) (v : List ℕ) → number s (check i g v) ≡ cond (logged i g v (s .log)) 1 0
 unfolding number
 check-number s i g v = refl
 

@@ -26,6 +26,7 @@ pub mod Accepts
 pub mod Past
 pub mod Hosted
 pub mod Histories
+pub mod OnePast
 pub mod Since
 pub mod Logs
 pub mod Escrows
@@ -37,5 +38,7 @@ pub mod TwoRuns
 pub mod TwoSteps
 pub mod Secret
 pub mod Demanded
+pub mod FixedRuns
+pub mod FixedSecret
 pub mod Differing
 pub mod Examined

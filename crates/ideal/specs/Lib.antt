@@ -12,6 +12,7 @@ pub mod History
 pub mod Accuracy
 pub mod Secrecy
 pub mod Demands
+pub mod Fixed
 pub mod Witness
 pub mod Exam
 pub mod Fit

@@ -1,0 +1,19 @@
+-- What the demands fix: every box that meets demands 1 and 2 runs from a fresh box as the definition does, and so it has
+-- demand 3 too. The hypotheses name no definition of the box.
+use mathlib.Core.Path.{_≡_}
+use mathlib.Core.List.{List}
+use Rattle.ideal.specs.Tables.{Tables, freshTables}
+use Rattle.ideal.specs.Box.{Element, Result, callOn, answersFrom, tablesAfter}
+use Rattle.ideal.specs.Secrecy.{Secrecy}
+use Rattle.ideal.specs.Demands.{Demand1, Demand2}
+
+-- two boxes answer a list alike, and leave the same
+pub record SameRun (a b : Tables → Element → Result) (es : List Element) : Type 0 where
+  pub answers : answersFrom a freshTables es ≡ answersFrom b freshTables es
+  pub tables : tablesAfter a es ≡ tablesAfter b es
+
+abbrev pub Fixed : Type 0
+Fixed = (box : Tables → Element → Result) → Demand1 box → Demand2 box → (es : List Element) → SameRun box callOn es
+
+abbrev pub SecrecyFollows : Type 0
+SecrecyFollows = (box : Tables → Element → Result) → Demand1 box → Demand2 box → Secrecy box
