@@ -1,17 +1,16 @@
 -- A box that meets demands 1 and 2 runs from a fresh box as the definition does. By induction over the calls: the number of
 -- each is fixed by its conditions, a refusal alters nothing, and an accepted call's answer and event are fixed by the tables
 -- and the calls before it; what it leaves is then what the past says. Assumes nothing.
-use Prim.Native.Nat.{ℕ, zero, suc, _+_, _*_, _≤_, _<_}
+use Prim.Native.Nat.{ℕ, zero, suc, _+_, _≤_, _<_}
 use mathlib.Core.Path.{_≡_, refl, sym, ap, _∙_, subst}
-use mathlib.Core.Logic.{_⊎_, inl, inr}
-use mathlib.Core.Bool.{true, false, cond, false≢true}
+use mathlib.Core.Bool.{false, cond}
 use mathlib.Core.List.{List, [], _∷_, _++_}
 use mathlib.Core.Option.{some}
 use native.Mathlib.Omega.{arith}
-use lib.ListN.{length, getD, take}
+use lib.ListN.{length, take}
 use lib.Seq.{ext-getD, take-suc, take-all}
-use lib.Dec.{eqb, ltb}
-use borrow.Author.Tests.{eqb-true, eqb-false, ne-eqb, eq-eqb, ltb-true, ltb-false}
+use lib.Dec.{eqb}
+use borrow.Author.Tests.{eqb-true, eqb-false, ne-eqb, eq-eqb}
 use Rattle.fnv.specs.declared.Tag.{Tag}
 use Rattle.record.specs.declared.Handle.{Handle}
 use Rattle.record.specs.declared.Draw.{Draw}
@@ -19,18 +18,17 @@ use Rattle.record.specs.Call.{Call, create, start, yield, exit, heapWrite, heap
 use Rattle.record.specs.Read.{Reading, refused, whole, read}
 use Rattle.record.specs.Write.{filled}
 use Rattle.ideal.specs.State.{Move, any}
-use Rattle.ideal.specs.Step.{Answer, logged, refuse, refusedAnswer, onReading, stepOn}
-use Rattle.ideal.specs.Tables.{Tables, stateOf, freshTables}
-use Rattle.ideal.specs.Box.{Element, Result, laid, callOn, elementAt, tablesFrom, answersFrom, tablesAfter, tablesBefore, answerAt}
-use Rattle.ideal.specs.Refusals.{callerIn, ownBytes, oneOf, UsedAt, unread, was-read, Refused}
+use Rattle.ideal.specs.Step.{Answer, logged}
+use Rattle.ideal.specs.Tables.{Tables, freshTables}
+use Rattle.ideal.specs.Box.{Element, Result, callOn, elementAt, tablesFrom, answersFrom, tablesAfter, tablesBefore, answerAt}
+use Rattle.ideal.specs.Refusals.{callerIn, ownBytes, oneOf}
 use Rattle.ideal.specs.Answers.{plainNumber, Answered}
 use Rattle.ideal.specs.History.{eventOf, added, pastFrom, pastOf, Shows}
-use Rattle.ideal.specs.Accuracy.{Earlier, LogsAt, ProtectsAt, ProtectedBefore, HandsOut, candidate, handleUsed, FirstFree}
+use Rattle.ideal.specs.Accuracy.{Earlier, LogsAt, ProtectsAt, ProtectedBefore, HandsOut}
 use Rattle.ideal.specs.Demands.{Demand1, Demand2}
-use Rattle.ideal.specs.Fixed.{SameRun, Fixed}
-use Rattle.lists.proofs.Bools.{by-cases, clash}
-use Rattle.ideal.proofs.Numbers.{read-refused}
-use Rattle.ideal.proofs.Accepts.{sound-of}
+use Rattle.ideal.specs.Fixed.{Fixed}
+use Rattle.lists.proofs.Bools.{by-cases}
+use Rattle.ideal.proofs.OneAnswer.{one-free, same-used, same-answer, accepted-reads}
 use Rattle.ideal.proofs.Runs.{stateBefore, accepted-at, number-at}
 use Rattle.ideal.proofs.Checks.{check-number}
 use Rattle.ideal.proofs.Retrieves.{handed}
@@ -80,33 +78,6 @@ module _ (box : Box) where
 
 -- ---- what the statements of one call fix
 
--- the first free handle is one
-no-later : (t : Tables) (size draw : ℕ) (h g : Handle) (a : FirstFree t size draw h) (b : FirstFree t size draw g)
-    → a .passed < b .passed → ⊥
-no-later t size draw h g a b l =
-    clash (handleUsed t h) (rw (a .is) (b .used (a .passed) l)) (a .free)
-
-first-free : (t : Tables) (size draw : ℕ) (h g : Handle) → FirstFree t size draw h → FirstFree t size draw g → h ≡ g
-first-free t size draw h g a b =
-    let x = a .passed in
-    let y = b .passed in
-    let n : x ≡ y =
-    by-cases (ltb x y)
-    (λ l. absurd (no-later t size draw h g a b (ltb-true x y l)))
-    (λ l. by-cases (ltb y x)
-    (λ m. absurd (no-later t size draw g h b a (ltb-true y x m)))
-    (λ m. omega (arith, ltb-false x y l, ltb-false y x m))) in
-    a .is ∙ ap (candidate size draw) n ∙ sym (b .is)
-
-same-used : (bs : List ℕ) (c m n : ℕ) → UsedAt bs c m → UsedAt bs c n → m ≡ n
-same-used bs c m n (unread x p) (unread y q) = p ∙ sym q
-same-used bs c m n (unread x p) (was-read y d q) = clash _ x y
-same-used bs c m n (was-read x d p) (unread y q) = clash _ y x
-same-used bs c m n (was-read x d p) (was-read y f q) = cc
-
-same-answer : (a b : Answer) → a .code ≡ b .code → a .number ≡ b .number → a .used ≡ b .used → a .shown ≡ b .shown → a ≡ b
-same-answer a b c n u s = λ i. record { code = c i; number = n i; used = u i; shown = s i }
-
 -- only a retrieve's event is told by what the call left
 same-event : (c : Call) (t w x : Tables) (n : ℕ)
     → ((i o : ℕ) (h : Handle) → c ≡ retrieve i o h → ownBytes w o n ≡ ownBytes x o n) → eventOf t w n c ≡ eventOf t x n c
@@ -136,23 +107,6 @@ accepted-adds : (t : Tables) (r : Result) (c : Call) (used : ℕ) (past : List M
     → added t r (whole c used) past ≡ eventOf t (r .tables) (r .answer .number) c ∷ past
 unfolding added
 accepted-adds t r c used past h = rw (eq-eqb (r .answer .code) 0 h)
-
--- what is accepted is a whole record
-record Whole (bs : List ℕ) : Type 0 where
-  call : Call
-  used : ℕ
-  reads : read bs ≡ whole call used
-
-accepted-reads : (t : Tables) (e : Element) → callOn t e .answer .code ≡ 0 → Whole (e .bytes)
-unfolding callOn laid stepOn onReading refuse refusedAnswer oneOf any
-accepted-reads t e z = at (read (e .bytes)) refl
-  where
-    at : (r : Reading) → read (e .bytes) ≡ r → Whole (e .bytes)
-    at (whole c used) q = record { call = c; used = used; reads = q }
-    at (refused code n) q =
-        let ok = sound-of t e z in
-        let y : code ≡ 0 = rw (ok .sizes, ok .box, q) at z in
-        absurd (false≢true (rw y at (read-refused (e .bytes) code n q .1)))
 
 -- ---- calls before the one at an index, of two boxes
 
@@ -327,7 +281,7 @@ module _ (box : Box) (one : Demand1 box) (two : Demand2 box) where
     handle-is i o n d used q z =
         let y = two .handles-free (tablesBefore box es k) e i o n d used q (code-is ∙ z) in
         let x = demands .two .handles-free t e i o n d used q z in
-        ap (λ a. a .0) (first-free t n (d .0) _ _ (rw (← before) y) x)
+        ap (λ a. a .0) (one-free t n (d .0) _ _ (rw (← before) y) x)
 
     -- what an accepted retrieve hands out
     record Both (o : ℕ) : Type 0 where

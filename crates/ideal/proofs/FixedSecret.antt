@@ -1,12 +1,12 @@
 -- A box that runs as the definition does keeps demand 3, since demand 3 speaks of runs from a fresh box. Assumes nothing.
 use Prim.Native.Nat.{ℕ, _<_}
-use mathlib.Core.Path.{_≡_, sym, ap, _∙_}
+use mathlib.Core.Path.{_≡_, _∙_}
 use mathlib.Core.Bool.{Bool}
 use mathlib.Core.List.{List}
 use native.Mathlib.Omega.{arith}
 use lib.ListN.{length}
 use Rattle.ideal.specs.Tables.{Tables}
-use Rattle.ideal.specs.Box.{Element, Result, callOn, elementAt, tablesAfter, tablesBefore, answerAt}
+use Rattle.ideal.specs.Box.{Element, Result, callOn, elementAt, tablesBefore, answerAt}
 use Rattle.ideal.specs.Demands.{Demand1, Demand2}
 use Rattle.ideal.specs.Secrecy.{AlikeLists, Premise, EqualOutside, noneExempt}
 use Rattle.ideal.specs.Fixed.{SecrecyFollows}

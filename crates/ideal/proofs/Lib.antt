@@ -38,6 +38,9 @@ pub mod TwoRuns
 pub mod TwoSteps
 pub mod Secret
 pub mod Demanded
+pub mod OneAnswer
+pub mod OneCalls
+pub mod FixedCalls
 pub mod FixedRuns
 pub mod FixedSecret
 pub mod Differing

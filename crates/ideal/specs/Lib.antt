@@ -11,6 +11,7 @@ pub mod Answers
 pub mod History
 pub mod Accuracy
 pub mod Secrecy
+pub mod OneCall
 pub mod Demands
 pub mod Fixed
 pub mod Witness
