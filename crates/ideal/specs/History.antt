@@ -11,7 +11,7 @@ use Rattle.record.specs.Read.{Reading, refused, whole, read}
 use Rattle.ideal.specs.declared.LogRow.{LogRow}
 use Rattle.ideal.specs.declared.EscrowRow.{EscrowRow}
 use Rattle.ideal.specs.State.{Logged, Escrowed, Move, nothing, takes, activates, empties, writes, shares, logs, escrows, part, any, sameBytes, bytesUsed}
-use Rattle.ideal.specs.Step.{Answer, services}
+use Rattle.ideal.specs.Step.{Answer}
 use Rattle.ideal.specs.Tables.{Tables, logTable, escrowTable, freshTables}
 use Rattle.ideal.specs.Layouts.{Sound}
 use Rattle.ideal.specs.Box.{Element, Result, tablesAfter, elementAt, tablesBefore, answerAt}
@@ -125,6 +125,11 @@ unfoldable pub ones : ℕ → ℕ → ℕ
 ones zero map = 0
 ones (suc n) map = map % 2 + ones n (map / 2)
 
+-- how many of the first n places have an identity
+unfoldable pub occupied : (ℕ → ℕ) → ℕ → ℕ
+occupied identity zero = 0
+occupied identity (suc n) = cond (eqb (identity n) 0) 0 1 + occupied identity n
+
 -- ---- the box record, the memories and the tables are those that the past says
 
 -- a row with its value bytes is this entry
@@ -143,7 +148,7 @@ pub record AsThePast (t : Tables) (past : List Move) : Type 0 where
   pub running : t .box .running ≡ runs past
   pub identity : (p : ℕ) → p < 16 → getD (t .box .identities) p 0 ≡ holder past p
   pub taken : (p : ℕ) → p < 16 → stands (t .box .taken) p ≡ not (eqb (holder past p) 0)
-  pub services : ones 16 (t .box .taken) ≡ services (t .box .identities)
+  pub services : ones 16 (t .box .taken) ≡ occupied (holder past) 16
   pub heap : (p x : ℕ) → p < 16 → x < 256 → getD (t .heaps) (256 * p + x) 0 ≡ byteAt past p x
   pub shared : (x : ℕ) → x < 1024 → getD (t .shared) x 0 ≡ byteAt past 16 x
   pub logRows : t .box .log .rows ≡ length (pairs past)
