@@ -10,6 +10,7 @@ pub mod Memory
 pub mod OwnHeap
 pub mod HeapBytes
 pub mod CallNumbers
+pub mod Entries
 pub mod Does
 pub mod Kept
 pub mod TwoEscrows
