@@ -26,7 +26,7 @@ use Rattle.ideal.specs.Answers.{plainNumber, Answered}
 use Rattle.ideal.specs.History.{eventOf, added, pastFrom, pastOf, Shows}
 use Rattle.ideal.specs.Accuracy.{Earlier, LogsAt, ProtectsAt, ProtectedBefore, HandsOut}
 use Rattle.ideal.specs.Demands.{Demand1, Demand2}
-use Rattle.ideal.specs.Fixed.{Fixed}
+use Rattle.ideal.specs.Fixed.{FixedByTwo, Fixed}
 use Rattle.lists.proofs.Bools.{by-cases}
 use Rattle.ideal.proofs.OneAnswer.{one-free, same-used, same-answer, accepted-reads}
 use Rattle.ideal.proofs.Runs.{stateBefore, accepted-at, number-at}
@@ -110,8 +110,16 @@ accepted-adds t r c used past h = rw (eq-eqb (r .answer .code) 0 h)
 
 -- ---- calls before the one at an index, of two boxes
 
+-- the same code, and the same answer where it is accepted
+pub record Alike (x y : Answer) : Type 0 where
+  pub code : x .code ≡ y .code
+  pub accepted : y .code ≡ 0 → x ≡ y
+
+alike-back : {x y : Answer} → Alike x y → Alike y x
+alike-back h = record { code = sym (h .code); accepted = λ z. sym (h .accepted (sym (h .code) ∙ z)) }
+
 module _ (a b : Box) (es : List Element) (j : ℕ) (t : tablesBefore a es j ≡ tablesBefore b es j)
-    (x : answerAt a es j ≡ answerAt b es j) where
+    (h : Alike (answerAt a es j) (answerAt b es j)) where
   logs-too : {i : ℕ} {v : List ℕ} {g : Tag} → LogsAt a es i v g j → LogsAt b es i v g j
   logs-too l =
       record {
@@ -119,10 +127,10 @@ module _ (a b : Box) (es : List Element) (j : ℕ) (t : tablesBefore a es j ≡ 
         size = l .size;
         used = l .used;
         reads = l .reads;
-        accepts = sym (ap (λ y. y .code) x) ∙ l .accepts;
+        accepts = sym (h .code) ∙ l .accepts;
         by = sym (ap (λ y. callerIn y) t) ∙ l .by;
         bytes = sym (ap (λ y. ownBytes y (l .offset) (l .size)) t) ∙ l .bytes;
-        gets = sym (ap (λ y. y .number) x) ∙ l .gets;
+        gets = sym (ap (λ y. y .number) (h .accepted (sym (h .code) ∙ l .accepts))) ∙ l .gets;
       }
 
   protects-too : {i r : ℕ} {h : Handle} {v : List ℕ} → ProtectsAt a es i r h v j → ProtectsAt b es i r h v j
@@ -133,10 +141,10 @@ module _ (a b : Box) (es : List Element) (j : ℕ) (t : tablesBefore a es j ≡ 
         draw = p .draw;
         used = p .used;
         reads = p .reads;
-        accepts = sym (ap (λ y. y .code) x) ∙ p .accepts;
+        accepts = sym (h .code) ∙ p .accepts;
         by = sym (ap (λ y. callerIn y) t) ∙ p .by;
         bytes = sym (ap (λ y. ownBytes y (p .offset) (p .size)) t) ∙ p .bytes;
-        gets = sym (ap (λ y. y .number) x) ∙ p .gets;
+        gets = sym (ap (λ y. y .number) (h .accepted (sym (h .code) ∙ p .accepts))) ∙ p .gets;
       }
 
 -- ---- the induction
@@ -144,11 +152,11 @@ module _ (a b : Box) (es : List Element) (j : ℕ) (t : tablesBefore a es j ≡ 
 -- two boxes up to an index
 pub record SameTo (a b : Box) (es : List Element) (k : ℕ) : Type 0 where
   pub tables : (j : ℕ) → j ≤ k → tablesBefore a es j ≡ tablesBefore b es j
-  pub answers : (j : ℕ) → j < k → answerAt a es j ≡ answerAt b es j
+  pub answers : (j : ℕ) → j < k → Alike (answerAt a es j) (answerAt b es j)
   pub past : pastOf a (take k es) ≡ pastOf b (take k es)
 
 back : {a b : Box} {es : List Element} {k : ℕ} → SameTo a b es k → SameTo b a es k
-back h = record { tables = λ j l. sym (h .tables j l); answers = λ j l. sym (h .answers j l); past = sym (h .past) }
+back h = record { tables = λ j l. sym (h .tables j l); answers = λ j l. alike-back (h .answers j l); past = sym (h .past) }
 
 module _ {a b : Box} {es : List Element} {k : ℕ} (h : SameTo a b es k) where
   logged-too : {i : ℕ} {v : List ℕ} {g : Tag} → Earlier (LogsAt a es i v g) k → Earlier (LogsAt b es i v g) k
@@ -165,9 +173,9 @@ module _ {a b : Box} {es : List Element} {k : ℕ} (h : SameTo a b es k) where
       let q = ap (λ y. callerIn y) (h .tables k (omega arith)) in
       record { index = j; before = l; there = subst (λ r. ProtectsAt b es i r g v j) q p }
 
-module _ (box : Box) (one : Demand1 box) (two : Demand2 box) where
+module _ (box : Box) (two : Demand2 box) where
   pub same-code : (t : Tables) (e : Element) → box t e .answer .code ≡ callOn t e .answer .code
-  same-code t e = let n = callOn t e .answer .code in one .numbers t e n .1 (demands .one .numbers t e n .0 refl)
+  same-code t e = let n = callOn t e .answer .code in two .refuses-no-more t e n .1 (demands .two .refuses-no-more t e n .0 refl)
 
   module _ (es : List Element) (k : ℕ) (b : k < length es) (h : SameTo box callOn es k) where
     abbrev e : Element
@@ -194,7 +202,7 @@ module _ (box : Box) (one : Demand1 box) (two : Demand2 box) where
     unfolding tablesBefore
     tables-too p = one-past (two .holds (take (suc k) es)) (rw p (demands .two .holds (take (suc k) es)))
 
-    further : answerAt box es k ≡ answerAt callOn es k → pastOf box (take (suc k) es) ≡ pastOf callOn (take (suc k) es)
+    further : Alike (answerAt box es k) (answerAt callOn es k) → pastOf box (take (suc k) es) ≡ pastOf callOn (take (suc k) es)
         → SameTo box callOn es (suc k)
     further x p =
         record {
@@ -215,11 +223,7 @@ module _ (box : Box) (one : Demand1 box) (two : Demand2 box) where
     unfolding answerAt
     when-refused n =
         let m : box (tablesBefore box es k) e .answer .code ≡ 0 → ⊥ = λ z. n (sym code-is ∙ z) in
-        let r = one .alters-nothing (tablesBefore box es k) e m in
-        let s = demands .one .alters-nothing t e n in
-        let u = rw code-is at (r .used) in
-        further
-        (same-answer _ _ code-is (r .number ∙ sym (s .number)) (same-used (e .bytes) _ _ _ u (s .used)) (r .shown ∙ sym (s .shown)))
+        further (record { code = code-is; accepted = λ z. absurd (n z) })
         (past-next box es k b ∙ refused-adds _ _ (read (e .bytes)) _ m ∙ h .past
         ∙ sym (past-next callOn es k b ∙ refused-adds _ _ (read (e .bytes)) _ n))
 
@@ -366,7 +370,7 @@ module _ (box : Box) (one : Demand1 box) (two : Demand2 box) where
           h .past,
         ) in
         let u = answered-r c used q z .used ∙ sym (answered-s c used q z .used) in
-        further (same-answer _ _ code-is n u (shown-is c used q z))
+        further (record { code = code-is; accepted = λ _. same-answer _ _ code-is n u (shown-is c used q z) })
         (past-next box es k b ∙ past ∙ sym (past-next callOn es k b))
 
     one-more : SameTo box callOn es (suc k)
@@ -386,20 +390,47 @@ module _ (box : Box) (one : Demand1 box) (two : Demand2 box) where
       }
   same-to es (suc k) b = one-more es k (omega arith) (same-to es k (omega arith))
 
-  answers-to : (es : List Element) (k : ℕ) → k ≤ length es
-      → answersFrom box freshTables (take k es) ≡ answersFrom callOn freshTables (take k es)
-  answers-to es zero b = unfold answersFrom in refl
-  answers-to es (suc k) b =
+pub fixed-by-two : FixedByTwo
+unfolding tablesBefore
+fixed-by-two box two es =
+    let n = length es in
+    let h = same-to box two es n (omega arith) in
+    record {
+      code = λ k b. h .answers k b .code;
+      answer = λ k b. h .answers k b .accepted;
+      tables = rw (take-all n es (omega arith)) at (h .tables n (omega arith));
+    }
+
+-- ---- with demand 1, the refusals too
+
+module _ (box : Box) (one : Demand1 box) (two : Demand2 box) (es : List Element) where
+  pub tables-at : (k : ℕ) → k < length es → tablesBefore box es k ≡ tablesBefore callOn es k
+  tables-at k b = same-to box two es (length es) (omega arith) .tables k (omega arith)
+
+  pub answers-at : (k : ℕ) → k < length es → answerAt box es k ≡ answerAt callOn es k
+  unfolding answerAt
+  answers-at k b =
+      let h = same-to box two es (length es) (omega arith) .answers k b in
+      let e = elementAt es k in
+      by-cases (eqb (answerAt callOn es k .code) 0)
+      (λ z. h .accepted (eqb-true _ _ z))
+      (λ z.
+      let n = eqb-false _ _ z in
+      let r = one .alters-nothing (tablesBefore box es k) e (λ y. n (sym (h .code) ∙ y)) in
+      let s = demands .one .alters-nothing (tablesBefore callOn es k) e n in
+      let u = rw (h .code) at (r .used) in
+      same-answer _ _ (h .code) (r .number ∙ sym (s .number)) (same-used (e .bytes) _ _ _ u (s .used)) (r .shown ∙ sym (s .shown)))
+
+  answers-to : (k : ℕ) → k ≤ length es → answersFrom box freshTables (take k es) ≡ answersFrom callOn freshTables (take k es)
+  answers-to zero b = unfold answersFrom in refl
+  answers-to (suc k) b =
       let l : k < length es = omega arith in
-      answers-next box es k l
-      ∙ rw (answers-to es k (omega arith), same-to es (suc k) b .answers k (omega arith)) (sym (answers-next callOn es k l))
+      answers-next box es k l ∙ rw (answers-to k (omega arith), answers-at k l) (sym (answers-next callOn es k l))
 
 pub fixed : Fixed
-unfolding tablesBefore
 fixed box one two es =
     let n = length es in
-    let all = take-all n es (omega arith) in
     record {
-      answers = rw all at (answers-to box one two es n (omega arith));
-      tables = rw all at (same-to box one two es n (omega arith) .tables n (omega arith));
+      answers = rw (take-all n es (omega arith)) at (answers-to box one two es n (omega arith));
+      tables = fixed-by-two box two es .tables;
     }
