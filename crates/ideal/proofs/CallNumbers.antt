@@ -43,14 +43,14 @@ module _ {Row Key : Type 0} (t : RowsOf Row Key) where
 
 -- a state that is read back from its tables
 module _ (s : State) (back : stateOf (tables s) ≡ s) (valid : Valid s) where
-  pair-rows : (i : ℕ) (w : List ℕ) → paired i w (s .log) ≡ any (holdsPair (tables s .logValues) i w) (usedLog (tables s))
+  pub pair-rows : (i : ℕ) (w : List ℕ) → paired i w (s .log) ≡ any (holdsPair (tables s .logValues) i w) (usedLog (tables s))
   unfolding paired isPair holdsPair stateOf
   pair-rows i w =
       ap (λ x. any (isPair i w) (x .log)) (sym back)
       ∙ any-entries logTable (isPair i w) (tables s .logValues) (usedLog (tables s))
 
   -- what is told of the row found and of the entry found agrees
-  found-row : {B : Type 0} (f : Option EscrowRow → B) (g : Option Escrowed → B) → f none ≡ g none
+  pub found-row : {B : Type 0} (f : Option EscrowRow → B) (g : Option Escrowed → B) → f none ≡ g none
       → ((e : Escrowed) (at : ℕ) → f (some (escrowTable .row (e .key) at (length (e .value)))) ≡ g (some e))
       → (i : ℕ) (h : Handle) → g (found s i h) ≡ f (find (isRow h i (callerIn (tables s))) (usedEscrow (tables s)))
   unfolding found isRow isEscrowed tables boxRecord

@@ -17,6 +17,7 @@ use Rattle.ideal.specs.Box.{Element, laid, callOn, elementAt}
 use Rattle.ideal.specs.Accuracy.{LogsAt, Says, Sized, CheckAt, LongCheckIsNo}
 use Rattle.lists.proofs.Bools.{by-cases, clash, and-left, and-right, and-false, or-false}
 use Rattle.lists.proofs.Lists.{same-bytes}
+use Rattle.ideal.proofs.Entries.{isShort, short-entries}
 use Rattle.ideal.proofs.Facts.{output-size}
 use Rattle.ideal.proofs.Laid.{valid-sound, tables-state, call-is}
 use Rattle.ideal.proofs.Chain.{failed}
@@ -32,7 +33,7 @@ check-named : (s : State) (i : ℕ) (g : Tag) (v : List ℕ) → refusal s (chec
 unfolding refusal tests
 check-named s i g v h = eqb-false i 0 (failed 8 _ _ h)
 
-check-number : (s : State) (i : ℕ) (g : Tag) (v : List ℕ) → number s (check i g v) ≡ cond (logged i g v (s .log)) 1 0
+pub check-number : (s : State) (i : ℕ) (g : Tag) (v : List ℕ) → number s (check i g v) ≡ cond (logged i g v (s .log)) 1 0
 unfolding number
 check-number s i g v = refl
 
@@ -93,7 +94,7 @@ module _ (es : List Element) (k i : ℕ) (g : Tag) (v : List ℕ) (used : ℕ)
 
 -- where no value is longer than 256 bytes, a longer one is not among them
 not-logged : (i : ℕ) (g : Tag) (v : List ℕ) (l : List Logged) → 256 < length v
-    → every (λ e. leb (length (e .value)) 256) l ≡ true → logged i g v l ≡ false
+    → every isShort l ≡ true → logged i g v l ≡ false
 unfolding logged any every isLogged
 not-logged i g v [] long short = refl
 not-logged i g v (e ∷ l) long short =
@@ -113,4 +114,4 @@ long-check-is-no t e i g v used reads long ok named =
     let step = accepted-call s e (check i g v) used reads (output-size t (e .outputSize) (ok .sizes)) (check-refusal s i g v named) in
     let q : callOn t e .answer ≡ accepted s (check i g v) used .answer =
     ap (λ x. callOn x e .answer) (sym (tables-state t (e .outputSize) ok)) ∙ ap (λ x. x .answer) (call-is s e k) ∙ ap (λ o. o .answer) step in
-    rw (q, not-logged i g v (s .log) long (k .log .short)) (refl, refl)
+    rw (q, not-logged i g v (s .log) long (short-entries (k .log))) (refl, refl)

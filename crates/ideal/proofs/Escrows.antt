@@ -20,6 +20,7 @@ use Rattle.lists.proofs.Bools.{and-left, and-right, and-true}
 use Rattle.lists.proofs.Lists.{same-bytes, same-bytes-refl, any-append, any-one}
 use Rattle.ideal.proofs.Unique.{finds, found-any}
 use Rattle.ideal.specs.Valid.{Valid}
+use Rattle.ideal.proofs.Entries.{escrow-of}
 use Rattle.ideal.proofs.Does.{ProtectPassed, protect-passed, Does, does-nothing, does-take, does-activate, does-empty, does-write, does-share, does-log, does-escrow}
 use Rattle.ideal.proofs.Runs.{stateBefore, valid-before, caller-before, own-before, accepted-at, accepts-at, Accepted, number-at}
 use Rattle.ideal.proofs.Since.{Fed, AddsAt, since}
@@ -161,7 +162,7 @@ held-found s i h v valid = (to, from)
 
     to : any (λ e. p e && q e) (s .escrow) ≡ true → Finds s i h v
     to x =
-        let r = finds sameHandle p q (like h i (caller s)) (s .escrow) (valid .handles-differ) x in
+        let r = finds sameHandle p q (like h i (caller s)) (s .escrow) (escrow-of valid .apart) x in
         record { entry = r .element; is = r .is; value = same-bytes _ _ (r .passes) }
 
     from : Finds s i h v → any (λ e. p e && q e) (s .escrow) ≡ true

@@ -1,7 +1,7 @@
 -- The tests of soundness as plain facts, and the tests of rows as tests of entries. Assumes nothing.
 use Prim.Native.Nat.{ℕ, zero, _/_, _^_}
 use mathlib.Core.Path.{_≡_, refl, sym, ap, _∙_}
-use mathlib.Core.Bool.{Bool, true, false, not, _&&_}
+use mathlib.Core.Bool.{Bool, true, not, _&&_}
 use mathlib.Core.List.{List, [], _∷_}
 use lib.ListN.{length}
 use lib.Dec.{eqb, leb}
@@ -11,7 +11,7 @@ use Rattle.ideal.specs.Tables.{Tables, RowsOf, logTable, escrowTable, ro
 use Rattle.ideal.specs.Soundness.{All, done, _and_, pass, sizesRight, runningTaken, emptyHeapsZero, short, differ, samePair, sameHandle, hasIdentity, hasIdentities, rightTag, carriesLength, soundTests, sound}
 use Rattle.ideal.specs.Layouts.{Sound}
 use Rattle.lists.proofs.Bools.{and-left, and-right, and-true, and-assoc, and-swap}
-use Rattle.ideal.specs.Valid.{goodLogged, goodEscrowed}
+use Rattle.ideal.proofs.Entries.{isShort, goodLogged, goodEscrowed}
 use Rattle.ideal.proofs.Table.{Lawful, Stands, rows-every, log-lawful, escrow-lawful}
 
 infixr 20 _also_
@@ -42,10 +42,10 @@ every-both p q r e [] = refl
 every-both p q r e (a ∷ l) = rw (e a, every-both p q r e l) (and-swap (p a) (q a) (every p l) (every q l))
 
 pub short-tests : {Row Key : Type 0} {t : RowsOf Row Key} → Lawful t → (l : List (Entry Key))
-    → short t (rowsFrom t 0 l) ≡ every (λ e. leb (length (e .value)) 256) l
+    → short t (rowsFrom t 0 l) ≡ every isShort l
 unfolding short
 short-tests {t} law l =
-    rows-every law (λ r. leb (t .size r) 256) (λ e. leb (length (e .value)) 256)
+    rows-every law (λ r. leb (t .size r) 256) isShort
     (λ e at. ap (λ n. leb n 256) (law .size (e .key) at (length (e .value)))) 0 l
 
 pub log-tests : (l : List Logged) → every goodLogged l ≡ every hasIdentity (rowsFrom logTable 0 l) && every rightTag l

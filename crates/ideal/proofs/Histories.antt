@@ -1,10 +1,10 @@
--- The box record, the memories and the counts are those that the accepted calls since a fresh box say, and so are the
+-- The box record, the memories and the tables are those that the accepted calls since a fresh box say, and so are the
 -- answers of reads and of the report. Assumes nothing.
 use Prim.Native.Nat.{ℕ, zero, suc, _+_, _*_}
 use mathlib.Core.Path.{_≡_, refl, sym, ap, _∙_}
 use mathlib.Core.List.{List, [], _∷_}
 use native.Mathlib.Omega.{arith}
-use lib.ListN.{length, take}
+use lib.ListN.{length, getD, take}
 use lib.Dec.{eqb, eqb·suc-zero}
 use borrow.Author.Tests.{ltb-false, eqb-true, not-false}
 use Rattle.record.specs.Call.{Call, heapRead, sharedRead, report}
@@ -13,14 +13,15 @@ use Rattle.ideal.specs.State.{State, Move, fresh, heapAt, ownPart, bytes
 use Rattle.ideal.specs.Step.{tests, refusal, beyond, effect, number, shown, refuse, refusedAnswer, accepted, settle, step, onReading, stepOn}
 use Rattle.ideal.specs.Tables.{Tables, tables, boxRecord, freshTables}
 use Rattle.ideal.specs.Box.{Element, laid, callOn, elementAt, tablesFrom, tablesAfter, tablesBefore, answerAt}
-use Rattle.ideal.specs.History.{added, pastFrom, pastOf, ones, pairs, protects, AsThePast, Shows, HistoryHolds, Accepts, Reports}
+use Rattle.ideal.specs.History.{added, pastFrom, pastOf, holder, ones, pairs, protects, AsThePast, Shows, HistoryHolds, Accepts, Reports}
 use Rattle.ideal.proofs.Accepts.{Accepted, accepted-of}
 use Rattle.lists.proofs.Bools.{by-cases}
 use Rattle.ideal.proofs.Chain.{failed, passed}
 use Rattle.ideal.specs.Valid.{Valid}
 use Rattle.ideal.proofs.Kept.{busy, own-size}
-use Rattle.ideal.proofs.Laid.{stepElement, valid-fresh, valid-step, fresh-tables, call-is}
-use Rattle.ideal.proofs.Memory.{part-at, flat-at, taken-at, ones-taken}
+use Rattle.ideal.proofs.Laid.{sound-tables, stepElement, valid-fresh, valid-step, fresh-tables, call-is}
+use Rattle.ideal.proofs.Hosted.{logged-is, escrowed-is}
+use Rattle.ideal.proofs.Memory.{part-at, flat-at, taken-at, ones-taken, bits-occupied}
 use Rattle.ideal.proofs.OwnHeap.{sized}
 use Rattle.ideal.proofs.Table.{part-length}
 use Rattle.ideal.proofs.Past.{StateAsPast, fresh-past, past-kept}
@@ -35,7 +36,7 @@ tables-past s past k h =
       running = h .running;
       identity = h .identity;
       taken = λ p b. rw (taken-at (s .identities) p, h .identity p b);
-      services = ap (λ n. ones n (tables s .box .taken)) (sym (k .places)) ∙ ones-taken (s .identities);
+      services = rw (k .places) at (bits-occupied (s .identities) (holder past) (λ p b. h .identity p (omega (arith, k .places))));
       heap = λ p x b c.
           flat-at (s .heaps) p x (sized s k) (omega (arith, k .heaps)) c ∙ h .heap p x b c;
       shared = h .shared;
@@ -43,6 +44,18 @@ tables-past s past k h =
       logBytes = ap bytesUsed (h .log);
       escrowRows = ap length (h .escrow);
       escrowBytes = ap bytesUsed (h .escrow);
+      log = λ j d b.
+          let is = logged-is s k d j (omega (arith, ap length (h .log))) ∙ ap (λ l. getD l j d) (h .log) in
+          record { identity = ap (λ e. e .key .identity) is; tag = ap (λ e. e .key .tag) is; value = ap (λ e. e .value) is };
+      escrow = λ j d b.
+          let is = escrowed-is s k d j (omega (arith, ap length (h .escrow))) ∙ ap (λ l. getD l j d) (h .escrow) in
+          record {
+            source = ap (λ e. e .key .source) is;
+            recipient = ap (λ e. e .key .recipient) is;
+            handle = ap (λ e. e .key .handle) is;
+            value = ap (λ e. e .value) is;
+          };
+      sound = sound-tables s k;
     }
 
 -- ---- an element on the state
@@ -151,7 +164,7 @@ module _ (s : State) (past : List Move) (k : Valid s) (h : StateAsPast s past) w
   unfolding accepted number tables boxRecord
   report-counts used =
       let a = tables-past s past k h in
-      rw (a .services, ← a .logRows, ← a .escrowRows)
+      rw (← ones-taken (s .identities), k .places, ← a .logRows, ← a .escrowRows)
 
 pub reports : Reports callOn
 unfolding tablesBefore

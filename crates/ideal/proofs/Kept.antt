@@ -6,7 +6,7 @@ use mathlib.Core.List.{List, [], _∷_, _++_}
 use native.Mathlib.Omega.{arith}
 use lib.ListN.{length, getD, set, length-set, length-replicate, getD-replicate, length-append}
 use lib.Seq.{length-sets, getD-set-same, getD-set-other}
-use lib.Dec.{eqb, leb}
+use lib.Dec.{eqb}
 use borrow.Author.Tests.{ltb-false, eqb-true, eqb-false, eq-eqb, ne-eqb, le-leb}
 use Rattle.fnv.specs.Fnv.{tagOf}
 use Rattle.record.specs.Call.{Call}
@@ -19,65 +19,8 @@ use Rattle.ideal.proofs.Lists.{bytes-more, differ-more}
 use Rattle.ideal.proofs.Free.{free-handle, handle-size}
 use Rattle.ideal.proofs.Does.{Does, does-nothing, does-take, does-activate, does-empty, does-write, does-share, does-log, does-escrow}
 pub use Rattle.ideal.proofs.Does.{busy, own-size}
-use Rattle.ideal.specs.Valid.{Fitting, goodLogged, goodEscrowed, Valid}
-
--- ---- a valid state in parts, since a call alters few of them
-
-pub record Places (ids : List ℕ) (running : ℕ) (hs : List (List ℕ)) : Type 0 where
-  pub places : length ids ≡ 16
-  pub heaps : length hs ≡ 16
-  pub sizes : (p : ℕ) → p < 16 → length (getD hs p []) ≡ 256
-  pub runs : running ≤ 16
-  pub live : running < 16 → getD ids running 0 ≡ 0 → ⊥
-  pub empty : (p : ℕ) → p < 16 → getD ids p 0 ≡ 0 → getD hs p [] ≡ cleared
-
-pub record Good {Key : Type 0} (ok : Entry Key → Bool) (same : Entry Key → Entry Key → Bool) (l : List (Entry Key)) : Type 0 where
-  pub fits : Fitting l
-  pub good : every ok l ≡ true
-  pub apart : differ same l ≡ true
-
-abbrev pub LogGood : List Logged → Type 0
-LogGood l = Good goodLogged samePair l
-
-abbrev pub EscrowGood : List Escrowed → Type 0
-EscrowGood l = Good goodEscrowed sameHandle l
-
-pub valid : (s : State) → Places (s .identities) (s .running) (s .heaps) → length (s .shared) ≡ 1024 → LogGood (s .log)
-    → EscrowGood (s .escrow) → Valid s
-valid s p m l e =
-    record {
-      places = p .places;
-      heaps = p .heaps;
-      sizes = p .sizes;
-      shared = m;
-      runs = p .runs;
-      live = p .live;
-      empty = p .empty;
-      log = l .fits;
-      log-good = l .good;
-      pairs-differ = l .apart;
-      escrow = e .fits;
-      escrow-good = e .good;
-      handles-differ = e .apart;
-    }
-
-module _ {s : State} (k : Valid s) where
-  places-of : Places (s .identities) (s .running) (s .heaps)
-  places-of =
-      record {
-        places = k .places;
-        heaps = k .heaps;
-        sizes = k .sizes;
-        runs = k .runs;
-        live = k .live;
-        empty = k .empty;
-      }
-
-  log-of : LogGood (s .log)
-  log-of = record { fits = k .log; good = k .log-good; apart = k .pairs-differ }
-
-  escrow-of : EscrowGood (s .escrow)
-  escrow-of = record { fits = k .escrow; good = k .escrow-good; apart = k .handles-differ }
+use Rattle.ideal.specs.Valid.{Valid}
+use Rattle.ideal.proofs.Entries.{goodLogged, goodEscrowed, isShort, Good, LogGood, log-of, escrow-of, Places, valid, places-of}
 
 -- ---- places
 
@@ -138,20 +81,6 @@ module _ {ids : List ℕ} {r : ℕ} {hs : List (List ℕ)} (k : Places ids r hs)
 
 -- ---- one entry more
 
-fitting-more : {Key : Type 0} (l : List (Entry Key)) (e : Entry Key) (n : ℕ) → Fitting l → length (e .value) ≡ n → n ≤ 256
-    → full l n ≡ false → Fitting (l ++ (e ∷ []))
-unfolding full
-fitting-more l e n k h m f =
-    let a = eqb-false (length l) 64 (or-false-left (eqb (length l) 64) _ f) in
-    let b = ltb-false 4096 (bytesUsed l + n) (or-false-right (eqb (length l) 64) _ f) in
-    let c = k .few in
-    let d : length (e .value) ≤ 256 = omega arith in
-    record {
-      few = simp length-append (omega arith);
-      fits = rw (bytes-more l e) (omega arith);
-      short = every-more (λ r. leb (length (r .value)) 256) l e (k .short) (le-leb (length (e .value)) 256 d);
-    }
-
 pub eqb-comm : (a b : ℕ) → eqb a b ≡ eqb b a
 eqb-comm a b =
     by-cases (eqb a b)
@@ -173,9 +102,16 @@ any-same p q (a ∷ l) e = rw (e a, any-same p q l e)
 good-more : {Key : Type 0} {ok : Entry Key → Bool} {same : Entry Key → Entry Key → Bool} {l : List (Entry Key)} (e : Entry Key)
     (n : ℕ) → Good ok same l → length (e .value) ≡ n → n ≤ 256 → full l n ≡ false → ok e ≡ true → any (λ r. same r e) l ≡ false
     → Good ok same (l ++ (e ∷ []))
+unfolding full
 good-more {ok} {same} {l} e n k s m f g u =
+    let a = eqb-false (length l) 64 (or-false-left (eqb (length l) 64) _ f) in
+    let b = ltb-false 4096 (bytesUsed l + n) (or-false-right (eqb (length l) 64) _ f) in
+    let c = k .few in
+    let d : length (e .value) ≤ 256 = omega arith in
     record {
-      fits = fitting-more l e n (k .fits) s m f;
+      few = simp length-append (omega arith);
+      fits = rw (bytes-more l e) (omega arith);
+      short = every-more isShort l e (k .short) (le-leb (length (e .value)) 256 d);
       good = every-more ok l e (k .good) g;
       apart = differ-more same l e (k .apart) u;
     }
@@ -227,12 +163,12 @@ valid-apply {s} k (does-escrow {i = i} {o = o} {n = n} {d = d} a) =
 
 -- ---- a fresh box
 
-no-entries : {Key : Type 0} → Fitting {Key = Key} []
-unfolding bytesUsed every
-no-entries = record { few = omega arith; fits = omega arith; short = refl }
+no-entries : {Key : Type 0} {ok : Entry Key → Bool} {same : Entry Key → Entry Key → Bool} → Good ok same []
+unfolding bytesUsed every differ
+no-entries = record { few = omega arith; fits = omega arith; short = refl; good = refl; apart = refl }
 
 pub valid-fresh : Valid fresh
-unfolding fresh every differ
+unfolding fresh
 valid-fresh =
     valid _
     (record {
@@ -244,5 +180,5 @@ valid-fresh =
       empty = λ p h z. getD-replicate 16 p cleared [] h;
     })
     (length-replicate {A = ℕ} 1024 0)
-    (record { fits = no-entries; good = refl; apart = refl })
-    (record { fits = no-entries; good = refl; apart = refl })
+    no-entries
+    no-entries

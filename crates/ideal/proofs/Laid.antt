@@ -2,7 +2,7 @@
 -- sound tables stand for a valid state and are its tables. Assumes nothing.
 use Prim.Native.Nat.{ℕ, zero, suc, _≤_, _<_}
 use mathlib.Core.Path.{_≡_, refl, sym, ap, _∙_, subst}
-use mathlib.Core.Bool.{true, false, not, _&&_, cond}
+use mathlib.Core.Bool.{Bool, true, false, not, _&&_, cond}
 use mathlib.Core.List.{List}
 use native.Mathlib.Omega.{arith}
 use lib.ListN.{getD, take, replicate}
@@ -12,15 +12,15 @@ use Rattle.record.specs.Call.{Call}
 use Rattle.record.specs.Read.{Reading, refused, whole, read}
 use Rattle.ideal.specs.declared.BoxRecord.{BoxRecord}
 use Rattle.ideal.specs.declared.Used.{Used}
-use Rattle.ideal.specs.State.{State, cleared, fresh, every, bytesUsed}
+use Rattle.ideal.specs.State.{Entry, State, cleared, fresh, every, bytesUsed}
 use Rattle.ideal.specs.Step.{Outcome, refusal, refuse, accepted, settle, step, onReading, stepOn}
 use Rattle.ideal.specs.Tables.{Tables, RowsOf, logTable, escrowTable, padded, valuesOf, rowsFrom, rowsOf, entriesOf, takenMap, flat, chunks, boxRecord, tables, usedLog, usedEscrow, stateOf, freshTables}
 use Rattle.ideal.specs.Soundness.{sizesRight, runningTaken, short, hasIdentity, hasIdentities, rightTag, differ, samePair, sameHandle, sound}
 use Rattle.ideal.specs.Box.{Element, laid, callOn, unsound}
 use Rattle.ideal.specs.Layouts.{Sound, LayoutsAgree, StatesAgree, StaysSound, FreshBox}
 use Rattle.lists.proofs.Bools.{by-cases, and-left, and-right, and-true, or-true-left, or-true-right, not-is}
-use Rattle.ideal.specs.Valid.{Fitting, Valid}
-use Rattle.ideal.proofs.Kept.{Places, LogGood, EscrowGood, valid}
+use Rattle.ideal.specs.Valid.{Valid}
+use Rattle.ideal.proofs.Entries.{Good, LogGood, EscrowGood, log-of, escrow-of, Places, valid}
 use Rattle.ideal.proofs.Table.{Lawful, Stands, held, used-rows, entries-back, laid-out, rows-of-entries, entry-count, byte-count, rows-back, values-back, log-lawful, escrow-lawful}
 use Rattle.ideal.proofs.Heaps.{flat-length, chunks-flat, flat-chunks, chunks-length, chunks-sized, flat-replicate, cleared-is, empty-zero, zero-empty}
 use Rattle.ideal.proofs.OwnHeap.{sized}
@@ -61,12 +61,12 @@ module _ (s : State) (k : Valid s) where
   tables-facts : Facts (tables s)
   unfolding tables boxRecord
   tables-facts =
-      let l = k .log in
-      let e = k .escrow in
+      let l = log-of k in
+      let e = escrow-of k in
       let log-used = used-rows log-lawful (s .log) in
       let escrow-used = used-rows escrow-lawful (s .escrow) in
-      let log-good = sym (log-tests (s .log)) ∙ k .log-good in
-      let escrow-good = sym (escrow-tests (s .escrow)) ∙ k .escrow-good in
+      let log-good = sym (log-tests (s .log)) ∙ l .good in
+      let escrow-good = sym (escrow-tests (s .escrow)) ∙ e .good in
       record {
         places = k .places;
         heaps = flat-length (s .heaps) (sized s k) ∙ rw (k .heaps);
@@ -82,9 +82,9 @@ module _ (s : State) (k : Valid s) where
         escrow-short = rw escrow-used (short-tests escrow-lawful (s .escrow) ∙ e .short);
         log-identities = rw log-used (and-left _ _ log-good);
         escrow-identities = rw escrow-used (and-left _ _ escrow-good);
-        pairs-differ = ap (λ x. differ samePair (x .log)) state-tables ∙ k .pairs-differ;
+        pairs-differ = ap (λ x. differ samePair (x .log)) state-tables ∙ l .apart;
         tags = ap (λ x. every rightTag (x .log)) state-tables ∙ and-right (every hasIdentity (rowsFrom logTable 0 (s .log))) _ log-good;
-        handles-differ = ap (λ x. differ sameHandle (x .escrow)) state-tables ∙ k .handles-differ;
+        handles-differ = ap (λ x. differ sameHandle (x .escrow)) state-tables ∙ e .apart;
         lengths = rw escrow-used (and-right (every hasIdentities (rowsFrom escrowTable 0 (s .escrow))) _ escrow-good);
       }
 
@@ -106,9 +106,11 @@ taken b h =
     let l = ltb-true p 16 (and-left (ltb p 16) _ g) in
     (omega arith, λ m. eqb-false i 0 (not-true _ (and-right (ltb p 16) _ g))))
 
-fitting : {Row Key : Type 0} {t : RowsOf Row Key} {rows : List Row} {values : List ℕ} {used : Used} → Lawful t
-    → Stands t rows values used → short t (take (used .rows) rows) ≡ true → Fitting (held t rows values used)
-fitting {t} {rows} {values} {used} law s h =
+good-held : {Row Key : Type 0} {t : RowsOf Row Key} {rows : List Row} {values : List ℕ} {used : Used} → Lawful t
+    → Stands t rows values used → short t (take (used .rows) rows) ≡ true → {ok : Entry Key → Bool}
+    → {same : Entry Key → Entry Key → Bool} → every ok (held t rows values used) ≡ true
+    → differ same (held t rows values used) ≡ true → Good ok same (held t rows values used)
+good-held {t} {rows} {values} {used} law s h {ok} {same} good apart =
     let n = entry-count law s in
     let m = byte-count law s in
     let few = s .few in
@@ -117,6 +119,8 @@ fitting {t} {rows} {values} {used} law s h =
       few = omega arith;
       fits = omega arith;
       short = sym (short-tests law (held t rows values used)) ∙ rw (rows-of-entries law s) h;
+      good = good;
+      apart = apart;
     }
 
 module _ (t : Tables) (n : ℕ) (h : Sound t n) where
@@ -143,11 +147,8 @@ module _ (t : Tables) (n : ℕ) (h : Sound t n) where
       let f = facts t n h in
       let l = entriesOf logTable (t .logValues) (usedLog t) in
       let back = rows-of-entries log-lawful (f .log) in
-      record {
-        fits = fitting log-lawful (f .log) (f .log-short);
-        good = log-tests l ∙ rw back (and-true _ _ (f .log-identities) (f .tags));
-        apart = f .pairs-differ;
-      }
+      good-held log-lawful (f .log) (f .log-short) (log-tests l ∙ rw back (and-true _ _ (f .log-identities) (f .tags)))
+      (f .pairs-differ)
 
   valid-escrow : EscrowGood (stateOf t .escrow)
   unfolding stateOf
@@ -155,11 +156,8 @@ module _ (t : Tables) (n : ℕ) (h : Sound t n) where
       let f = facts t n h in
       let l = entriesOf escrowTable (t .escrowValues) (usedEscrow t) in
       let back = rows-of-entries escrow-lawful (f .escrow) in
-      record {
-        fits = fitting escrow-lawful (f .escrow) (f .escrow-short);
-        good = escrow-tests l ∙ rw back (and-true _ _ (f .escrow-identities) (f .lengths));
-        apart = f .handles-differ;
-      }
+      good-held escrow-lawful (f .escrow) (f .escrow-short)
+      (escrow-tests l ∙ rw back (and-true _ _ (f .escrow-identities) (f .lengths))) (f .handles-differ)
 
   pub valid-sound : Valid (stateOf t)
   unfolding stateOf

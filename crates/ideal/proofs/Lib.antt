@@ -10,6 +10,7 @@ pub mod Memory
 pub mod OwnHeap
 pub mod HeapBytes
 pub mod CallNumbers
+pub mod Entries
 pub mod Does
 pub mod Kept
 pub mod TwoEscrows
@@ -24,7 +25,9 @@ pub mod Runs
 pub mod Numbers
 pub mod Accepts
 pub mod Past
+pub mod Hosted
 pub mod Histories
+pub mod OnePast
 pub mod Since
 pub mod Logs
 pub mod Escrows
@@ -32,10 +35,14 @@ pub mod Checks
 pub mod Retrieves
 pub mod Handles
 pub mod Accurate
-pub mod Hosted
 pub mod TwoRuns
 pub mod TwoSteps
 pub mod Secret
 pub mod Demanded
+pub mod OneAnswer
+pub mod OneCalls
+pub mod FixedCalls
+pub mod FixedRuns
+pub mod FixedSecret
 pub mod Differing
 pub mod Examined

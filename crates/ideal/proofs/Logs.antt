@@ -16,7 +16,8 @@ use Rattle.ideal.specs.Box.{Element, callOn, elementAt}
 use Rattle.ideal.specs.Accuracy.{Earlier, LogsAt}
 use Rattle.lists.proofs.Bools.{by-cases, and-left, and-right, and-true, or-nil}
 use Rattle.lists.proofs.Lists.{same-bytes, same-bytes-refl, any-append, any-one, every-at, any-at, at-any}
-use Rattle.ideal.specs.Valid.{Valid, goodLogged}
+use Rattle.ideal.specs.Valid.{Valid}
+use Rattle.ideal.proofs.Entries.{goodLogged, log-of}
 use Rattle.ideal.proofs.Does.{AttestPassed, attest-passed, Does, does-nothing, does-take, does-activate, does-empty, does-write, does-share, does-log, does-escrow}
 use Rattle.ideal.proofs.Runs.{stateBefore, valid-before, caller-before, own-before, accepted-at, accepts-at, Accepted, number-at}
 use Rattle.ideal.proofs.Since.{Fed, AddsAt, since}
@@ -91,7 +92,7 @@ module _ (i : ℕ) (g : Tag) (v : List ℕ) where
   unfolding entry effect move apply withPair
   more s c (attests {o = o} {n = n} a) valid =
       by-cases (paired (caller s) (ownPart s o n) (s .log))
-      (λ e. rw e (again (caller s) (ownPart s o n) (s .log) (valid .log-good) e))
+      (λ e. rw e (again (caller s) (ownPart s o n) (s .log) (log-of valid .good) e))
       (λ e. rw (e, any-append (isLogged i g v) (s .log), any-one (isLogged i g v)))
 
 module _ (es : List Element) (i : ℕ) (g : Tag) (v : List ℕ) where

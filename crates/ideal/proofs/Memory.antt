@@ -15,7 +15,7 @@ use Rattle.record.specs.Layout.{stands}
 use Rattle.ideal.specs.State.{part}
 use Rattle.ideal.specs.Step.{services}
 use Rattle.ideal.specs.Tables.{takenMap, flat}
-use Rattle.ideal.specs.History.{within, ones}
+use Rattle.ideal.specs.History.{within, ones, occupied}
 use Rattle.lists.proofs.Bools.{by-cases}
 use Rattle.ideal.proofs.Heaps.{Sized}
 
@@ -123,3 +123,27 @@ ones-taken [] = refl
 ones-taken (i ∷ is) =
     rw (lowest (cond (eqb i 0) 0 1) (takenMap is) (bit-small i), halved (cond (eqb i 0) 0 1) (takenMap is) (bit-small i), ones-taken is)
     (by-cases (eqb i 0) (λ z. rw z (zero-add _)) (λ z. rw z))
+
+-- ---- how many places are taken
+
+occupied-first : (f : ℕ → ℕ) (n : ℕ) → occupied f (suc n) ≡ cond (eqb (f 0) 0) 0 1 + occupied (λ p. f (suc p)) n
+unfolding occupied
+occupied-first f zero = refl
+occupied-first f (suc n) = let h = occupied-first f n in rw h (omega arith)
+
+occupied-same : (f g : ℕ → ℕ) (n : ℕ) → ((p : ℕ) → p < n → f p ≡ g p) → occupied f n ≡ occupied g n
+unfolding occupied
+occupied-same f g zero h = refl
+occupied-same f g (suc n) h = rw (h n (omega arith), occupied-same f g n (λ p b. h p (omega arith)))
+
+services-occupied : (is : List ℕ) → services is ≡ occupied (λ p. getD is p 0) (length is)
+unfolding services
+services-occupied [] = unfold occupied in refl
+services-occupied (i ∷ is) =
+    rw (occupied-first (λ p. getD (i ∷ is) p 0) (length is), ← services-occupied is)
+    (by-cases (eqb i 0) (λ z. rw z (sym (zero-add _))) (λ z. rw z))
+
+-- the standing bits are as many as the places that have an identity
+pub bits-occupied : (is : List ℕ) (f : ℕ → ℕ) → ((p : ℕ) → p < length is → getD is p 0 ≡ f p)
+    → ones (length is) (takenMap is) ≡ occupied f (length is)
+bits-occupied is f h = ones-taken is ∙ services-occupied is ∙ occupied-same _ f (length is) h

@@ -20,7 +20,7 @@ use Rattle.ideal.proofs.ReaderNumbers.{seen, read-seen}
 use Rattle.ideal.proofs.CallNumbers.{call-first}
 
 -- at these no bytes count as used
-abbrev readNumbers : List ℕ
+abbrev pub readNumbers : List ℕ
 readNumbers = 1 ∷ 2 ∷ 3 ∷ 15 ∷ []
 
 -- the answer's code is the refusal
@@ -68,7 +68,7 @@ each-number t e n = rw (call-code t e) (first-of n (conditions t e))
 -- ---- what a refusal leaves
 
 -- the reader refuses with 1, 2 or 3, and its answer number is 0
-read-refused : (bs : List ℕ) (code number : ℕ) → read bs ≡ refused code number
+pub read-refused : (bs : List ℕ) (code number : ℕ) → read bs ≡ refused code number
     → (number ≡ 0) × (oneOf readNumbers code ≡ true)
 unfolding seen every readerConditions firstOf oneOf any
 read-refused bs code number e =

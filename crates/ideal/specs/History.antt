@@ -8,9 +8,12 @@ use lib.Dec.{eqb, ltb, leb}
 use Rattle.record.specs.Layout.{stands}
 use Rattle.record.specs.Call.{Call, create, start, yield, exit, heapWrite, heapRead, sharedWrite, sharedRead, attest, check, protect, retrieve, report}
 use Rattle.record.specs.Read.{Reading, refused, whole, read}
-use Rattle.ideal.specs.State.{Logged, Escrowed, Move, nothing, takes, activates, empties, writes, shares, logs, escrows, any, sameBytes, bytesUsed}
-use Rattle.ideal.specs.Step.{Answer, services}
-use Rattle.ideal.specs.Tables.{Tables, freshTables}
+use Rattle.ideal.specs.declared.LogRow.{LogRow}
+use Rattle.ideal.specs.declared.EscrowRow.{EscrowRow}
+use Rattle.ideal.specs.State.{Logged, Escrowed, Move, nothing, takes, activates, empties, writes, shares, logs, escrows, part, any, sameBytes, bytesUsed}
+use Rattle.ideal.specs.Step.{Answer}
+use Rattle.ideal.specs.Tables.{Tables, logTable, escrowTable, freshTables}
+use Rattle.ideal.specs.Layouts.{Sound}
 use Rattle.ideal.specs.Box.{Element, Result, tablesAfter, elementAt, tablesBefore, answerAt}
 use Rattle.ideal.specs.Refusals.{callerIn, ownBytes}
 
@@ -122,19 +125,43 @@ unfoldable pub ones : ℕ → ℕ → ℕ
 ones zero map = 0
 ones (suc n) map = map % 2 + ones n (map / 2)
 
--- ---- the box record, the memories and the counts are those that the past says
+-- how many of the first n places have an identity
+unfoldable pub occupied : (ℕ → ℕ) → ℕ → ℕ
+occupied identity zero = 0
+occupied identity (suc n) = cond (eqb (identity n) 0) 0 1 + occupied identity n
+
+-- ---- the box record, the memories and the tables are those that the past says
+
+-- a row with its value bytes is this entry
+pub record LogHolds (values : List ℕ) (row : LogRow) (e : Logged) : Type 0 where
+  pub identity : row .identity ≡ e .key .identity
+  pub tag : row .tag ≡ e .key .tag
+  pub value : part values (row .first) (row .length) ≡ e .value
+
+pub record EscrowHolds (values : List ℕ) (row : EscrowRow) (e : Escrowed) : Type 0 where
+  pub source : row .source ≡ e .key .source
+  pub recipient : row .recipient ≡ e .key .recipient
+  pub handle : row .handle ≡ e .key .handle
+  pub value : part values (row .first) (row .length) ≡ e .value
 
 pub record AsThePast (t : Tables) (past : List Move) : Type 0 where
   pub running : t .box .running ≡ runs past
   pub identity : (p : ℕ) → p < 16 → getD (t .box .identities) p 0 ≡ holder past p
   pub taken : (p : ℕ) → p < 16 → stands (t .box .taken) p ≡ not (eqb (holder past p) 0)
-  pub services : ones 16 (t .box .taken) ≡ services (t .box .identities)
+  pub services : ones 16 (t .box .taken) ≡ occupied (holder past) 16
   pub heap : (p x : ℕ) → p < 16 → x < 256 → getD (t .heaps) (256 * p + x) 0 ≡ byteAt past p x
   pub shared : (x : ℕ) → x < 1024 → getD (t .shared) x 0 ≡ byteAt past 16 x
   pub logRows : t .box .log .rows ≡ length (pairs past)
   pub logBytes : t .box .log .bytes ≡ bytesUsed (pairs past)
   pub escrowRows : t .box .escrow .rows ≡ length (protects past)
   pub escrowBytes : t .box .escrow .bytes ≡ bytesUsed (protects past)
+  -- the rows in order, entry by entry (d stands for none)
+  pub log : (k : ℕ) (d : Logged) → k < length (pairs past)
+      → LogHolds (t .logValues) (getD (t .logRows) k (logTable .blank)) (getD (pairs past) k d)
+  pub escrow : (k : ℕ) (d : Escrowed) → k < length (protects past)
+      → EscrowHolds (t .escrowValues) (getD (t .escrowRows) k (escrowTable .blank)) (getD (protects past) k d)
+  -- every buffer is of its size, and the box is sound
+  pub sound : Sound t 1024
 
 -- what an accepted read shows of a memory
 pub record Shows (past : List Move) (memory offset size : ℕ) (a : Answer) : Type 0 where

@@ -11,7 +11,9 @@ pub mod Answers
 pub mod History
 pub mod Accuracy
 pub mod Secrecy
+pub mod OneCall
 pub mod Demands
+pub mod Fixed
 pub mod Witness
 pub mod Exam
 pub mod Fit

@@ -1,26 +1,28 @@
--- The states that sound boxes stand for.
+-- The states that sound boxes stand for: document 01's list a second time, entry by entry and by index, with none of the
+-- tests of specs/Soundness.antt. (In `getD l k d`, d stands where there is no entry k.)
 use Prim.Native.Nat.{ℕ, _/_, _^_, _≤_, _<_}
 use mathlib.Core.Path.{_≡_}
-use mathlib.Core.Bool.{Bool, true, not, _&&_}
 use mathlib.Core.List.{List}
-use lib.ListN.{length}
-use lib.Dec.{eqb, leb}
-use Rattle.ideal.specs.State.{Entry, Logged, Escrowed, State, cleared, identityAt, heapAt, every, bytesUsed}
-use Rattle.ideal.specs.Soundness.{differ, samePair, sameHandle, rightTag}
+use lib.ListN.{length, getD}
+use Rattle.fnv.specs.Fnv.{tagOf}
+use Rattle.ideal.specs.State.{Entry, Logged, Escrowed, State, cleared, identityAt, heapAt, bytesUsed}
 
 -- a list of entries fits its table
 pub record Fitting {Key : Type 0} (l : List (Entry Key)) : Type 0 where
   pub few : length l ≤ 64
   pub fits : bytesUsed l ≤ 4096
-  pub short : every (λ e. leb (length (e .value)) 256) l ≡ true
+  pub short : (k : ℕ) (d : Entry Key) → k < length l → length (getD l k d .value) ≤ 256
 
-unfoldable pub goodLogged : Logged → Bool
-goodLogged e = not (eqb (e .key .identity) 0) && rightTag e
+-- identities are non-zero, and the tag is the right one
+pub record GoodLogged (e : Logged) : Type 0 where
+  pub identity : e .key .identity ≡ 0 → ⊥
+  pub tag : e .key .tag ≡ tagOf (e .key .identity) (e .value)
 
-unfoldable pub goodEscrowed : Escrowed → Bool
-goodEscrowed e =
-    not (eqb (e .key .source) 0)
-    && (not (eqb (e .key .recipient) 0) && eqb (e .key .handle .0 / 2 ^ 48) (length (e .value)))
+-- identities are non-zero, and the handle carries the length
+pub record GoodEscrowed (e : Escrowed) : Type 0 where
+  pub source : e .key .source ≡ 0 → ⊥
+  pub recipient : e .key .recipient ≡ 0 → ⊥
+  pub handle : e .key .handle .0 / 2 ^ 48 ≡ length (e .value)
 
 pub record Valid (s : State) : Type 0 where
   pub places : length (s .identities) ≡ 16
@@ -31,8 +33,10 @@ pub record Valid (s : State) : Type 0 where
   pub live : s .running < 16 → identityAt s (s .running) ≡ 0 → ⊥
   pub empty : (p : ℕ) → p < 16 → identityAt s p ≡ 0 → heapAt s p ≡ cleared
   pub log : Fitting (s .log)
-  pub log-good : every goodLogged (s .log) ≡ true
-  pub pairs-differ : differ samePair (s .log) ≡ true
+  pub log-good : (k : ℕ) (d : Logged) → k < length (s .log) → GoodLogged (getD (s .log) k d)
+  pub pairs-differ : (j k : ℕ) (d : Logged) → j < k → k < length (s .log)
+      → getD (s .log) j d .key .identity ≡ getD (s .log) k d .key .identity → getD (s .log) j d .value ≡ getD (s .log) k d .value → ⊥
   pub escrow : Fitting (s .escrow)
-  pub escrow-good : every goodEscrowed (s .escrow) ≡ true
-  pub handles-differ : differ sameHandle (s .escrow) ≡ true
+  pub escrow-good : (k : ℕ) (d : Escrowed) → k < length (s .escrow) → GoodEscrowed (getD (s .escrow) k d)
+  pub handles-differ : (j k : ℕ) (d : Escrowed) → j < k → k < length (s .escrow)
+      → getD (s .escrow) j d .key .handle ≡ getD (s .escrow) k d .key .handle → ⊥

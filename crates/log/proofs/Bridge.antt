@@ -12,17 +12,16 @@ use Rattle.fnv.specs.Fnv.{tagOf}
 use Rattle.record.specs.Call.{Call, attest, check}
 use Rattle.ideal.specs.declared.BoxRecord.{BoxRecord}
 use Rattle.ideal.specs.declared.LogRow.{LogRow}
-use Rattle.ideal.specs.State.{Logged, State, caller, part, ownPart, every}
+use Rattle.ideal.specs.State.{Logged, State, caller, part, ownPart}
 use Rattle.ideal.specs.Step.{paired, logged, full, withPair, withCommon, first, idle, beyond, tests, refusal, move, apply, effect, number, shown, refusedAnswer, refuse, accepted, settle, step}
-use Rattle.ideal.specs.Tables.{Tables, logTable, rowsFrom, flat, usedBy, boxRecord, tables, stateOf}
-use Rattle.ideal.specs.Soundness.{hasIdentity}
+use Rattle.ideal.specs.Tables.{Tables, flat, usedBy, boxRecord, tables, stateOf}
 use Rattle.ideal.specs.Box.{Result, laid}
-use Rattle.lists.proofs.Bools.{by-cases, and-right, and-other, not-is}
+use Rattle.lists.proofs.Bools.{by-cases, and-other, not-is}
 use Rattle.ideal.specs.Valid.{Valid}
 use Rattle.ideal.proofs.Chain.{failed, passed}
+use Rattle.ideal.proofs.Entries.{right-tags}
 use Rattle.ideal.proofs.Kept.{own-size, busy}
 use Rattle.ideal.proofs.Table.{entries-back, log-lawful}
-use Rattle.ideal.proofs.Facts.{log-tests}
 use Rattle.ideal.proofs.More.{row-added, value-added, counts-raised}
 use Rattle.ideal.proofs.Memory.{flat-part}
 use Rattle.state.specs.Answers.{settled, answered}
@@ -115,9 +114,7 @@ module _ (s : State) (k : Valid s) (o n used : ℕ) where
         flat-part (s .heaps) (s .running) o n (λ p h. k .sizes p (omega (arith, k .heaps))) (omega (arith, k .heaps)) within
 
     pairs : logged i (tagOf i v) v (s .log) ≡ paired i v (s .log)
-    pairs =
-        let tags = and-right (every hasIdentity (rowsFrom logTable 0 (s .log))) _ (sym (log-tests (s .log)) ∙ k .log-good) in
-        sym (paired-logged i v (s .log) tags)
+    pairs = sym (paired-logged i v (s .log) (right-tags k))
 
     attests : not (paired i v (s .log)) && full (s .log) n ≡ false → laid (settle 0 s c used) ≡ leaves 0 v
     unfolding laid settle accepted effect move apply number shown withPair attested settled

@@ -1,0 +1,274 @@
+-- What one accepted call leaves and answers on any sound box. Assumes nothing.
+use Prim.Native.Nat.{ℕ, zero, suc, _+_, _*_, _-_, _^_, _≤_, _<_}
+use mathlib.Core.Path.{_≡_, refl, sym, ap, _∙_}
+use mathlib.Core.Bool.{Bool, false, not, _||_, cond}
+use mathlib.Core.List.{List, [], _∷_, _++_}
+use mathlib.Core.Option.{Option, none, some}
+use native.Mathlib.Omega.{arith}
+use lib.ListN.{length, getD, set}
+use lib.Dec.{eqb, ltb}
+use borrow.Author.Tests.{ltb-false, eqb-true, eqb-false, eq-eqb, ne-eqb, not-false}
+use Rattle.fnv.specs.declared.Tag.{Tag}
+use Rattle.record.specs.declared.Handle.{Handle}
+use Rattle.record.specs.Call.{Call, create, start, yield, exit, heapWrite, heapRead, sharedWrite, sharedRead, attest, check, protect, retrieve, report}
+use Rattle.record.specs.Read.{whole, read}
+use Rattle.ideal.specs.declared.LogRow.{LogRow}
+use Rattle.ideal.specs.declared.EscrowRow.{EscrowRow}
+use Rattle.ideal.specs.State.{Entry, Logged, Escrowed, State, cleared, identityAt, caller, ownPart, any, find, bytesUsed}
+use Rattle.ideal.specs.Step.{isLogged, paired, logged, full, withPair, pairOf, isEscrowed, found, valueIn, protected, vacant, beyond, tests, refusal, move, apply, effect, number, shown, accepted}
+use Rattle.ideal.specs.Tables.{Tables, escrowTable, logTable, entryOf, entriesOf, takenMap, boxRecord, tables, usedLog, usedEscrow, stateOf}
+use Rattle.ideal.specs.Box.{Element, laid, callOn}
+use Rattle.ideal.specs.Valid.{Valid}
+use Rattle.ideal.specs.Refusals.{callerIn, isRow, holdsPair, lengthIn}
+use Rattle.ideal.specs.History.{ones}
+use Rattle.ideal.specs.OneCall.{withPlacesIn, withShared, withLogRow, withEscrowRow, isLogRow, rowFor, bytesIn, leaves, countedNumber, shows, Done, OneCall}
+use Rattle.lists.proofs.Bools.{by-cases, and-other, not-is, or-false-left, or-false-right}
+use Rattle.ideal.proofs.Chain.{failed, passed}
+use Rattle.ideal.proofs.Does.{busy, own-size, AttestPassed, attest-passed, protect-passed}
+use Rattle.ideal.proofs.Table.{log-lawful, escrow-lawful, entries-back}
+use Rattle.ideal.proofs.Kept.{cleared-length}
+use Rattle.ideal.proofs.More.{row-added, value-added, counts-raised}
+use Rattle.ideal.proofs.Memory.{ones-taken}
+use Rattle.ideal.proofs.OwnHeap.{sized, own-bytes, own-written}
+use Rattle.ideal.proofs.HeapBytes.{flat-set}
+use Rattle.ideal.proofs.CallNumbers.{pair-rows, found-row}
+use Rattle.ideal.proofs.Laid.{state-tables, call-is}
+use Rattle.ideal.proofs.Facts.{output-size}
+use Rattle.ideal.proofs.Runs.{accepted-call}
+use Rattle.ideal.proofs.Numbers.{each-number, refusals-alter-nothing}
+use Rattle.ideal.proofs.Accepts.{sound-of, on-state, accepted-answers}
+use Rattle.ideal.proofs.Accurate.{handle-is-first-free}
+
+-- ---- the map of taken places
+
+taken-more : (is : List ℕ) (p i : ℕ) → p < length is → getD is p 0 ≡ 0 → (i ≡ 0 → ⊥) → takenMap (set is p i) ≡ takenMap is + 2 ^ p
+unfolding takenMap
+taken-more [] p i h z n = absurd (omega arith)
+taken-more (j ∷ is) zero i h z n = rw (ne-eqb i 0 n, eq-eqb j 0 z) (omega arith)
+taken-more (j ∷ is) (suc p) i h z n =
+    let e : 2 ^ suc p ≡ 2 * 2 ^ p = omega arith in
+    rw (taken-more is p i (omega arith) z n, e) (omega arith)
+
+taken-less : (is : List ℕ) (p : ℕ) → p < length is → (getD is p 0 ≡ 0 → ⊥) → takenMap (set is p 0) + 2 ^ p ≡ takenMap is
+unfolding takenMap
+taken-less [] p h n = absurd (omega arith)
+taken-less (j ∷ is) zero h n = rw (ne-eqb j 0 n) (omega arith)
+taken-less (j ∷ is) (suc p) h n =
+    let e : 2 ^ suc p ≡ 2 * 2 ^ p = omega arith in
+    rw (e, ← taken-less is p (omega arith) n) (omega arith)
+
+-- ---- one entry more
+
+record Room {Key : Type 0} (l : List (Entry Key)) (n : ℕ) : Type 0 where
+  rows : length l < 64
+  bytes : bytesUsed l + n ≤ 4096
+
+room : {Key : Type 0} (l : List (Entry Key)) (n : ℕ) → length l ≤ 64 → full l n ≡ false → Room l n
+unfolding full
+room l n k f =
+    let a = eqb-false (length l) 64 (or-false-left (eqb (length l) 64) _ f) in
+    record { rows = omega arith; bytes = ltb-false 4096 _ (or-false-right (eqb (length l) 64) _ f) }
+
+module _ (s : State) where
+  log-more : (e : Logged) → e .key .identity ≡ caller s → Room (s .log) (length (e .value))
+      → tables (record {
+        identities = s .identities;
+        running = s .running;
+        heaps = s .heaps;
+        shared = s .shared;
+        log = s .log ++ (e ∷ []);
+        escrow = s .escrow;
+      })
+      ≡ withLogRow (tables s) (e .key .tag .0) (e .value)
+  unfolding tables boxRecord withLogRow
+  log-more e q r =
+      rw (counts-raised (s .log) e, row-added log-lawful (s .log) e (r .rows), value-added (s .log) e (r .bytes), ← q)
+
+  escrow-more : (e : Escrowed) → e .key .source ≡ caller s → Room (s .escrow) (length (e .value))
+      → tables (record {
+        identities = s .identities;
+        running = s .running;
+        heaps = s .heaps;
+        shared = s .shared;
+        log = s .log;
+        escrow = s .escrow ++ (e ∷ []);
+      })
+      ≡ withEscrowRow (tables s) (e .key .recipient) (e .key .handle .0) (e .value)
+  unfolding tables boxRecord withEscrowRow
+  escrow-more e q r =
+      rw (counts-raised (s .escrow) e, row-added escrow-lawful (s .escrow) e (r .rows), value-added (s .escrow) e (r .bytes), ← q)
+
+-- ---- rows that are found
+
+found-bytes : (p : Escrowed → Bool) (q : EscrowRow → Bool) (values : List ℕ) (rows : List EscrowRow)
+    → ((r : EscrowRow) → p (entryOf escrowTable values r) ≡ q r)
+    → valueIn (find p (entriesOf escrowTable values rows)) ≡ bytesIn values (find q rows)
+unfolding find entriesOf valueIn bytesIn
+found-bytes p q values [] h = refl
+found-bytes p q values (r ∷ rows) h =
+    by-cases (q r) (λ b. rw (h r, b)) (λ b. rw (h r, b) (found-bytes p q values rows h))
+
+logged-rows : (i : ℕ) (g : Tag) (v values : List ℕ) (rows : List LogRow)
+    → any (isLogged i g v) (entriesOf logTable values rows) ≡ any (isLogRow values i g v) rows
+unfolding any entriesOf isLogged isLogRow
+logged-rows i g v values [] = refl
+logged-rows i g v values (r ∷ rows) = ap (λ b. isLogRow values i g v r || b) (logged-rows i g v values rows)
+
+none-some : {n : ℕ} → _≡_ {A = Option ℕ} none (some n) → ⊥
+none-some q = let z : _≡_ {A = ℕ} 0 1 = cc in omega arith
+
+the-some : {m n : ℕ} → some m ≡ some n → m ≡ n
+the-some q = cc
+
+-- ---- what is left
+
+module _ (s : State) (k : Valid s) where
+  -- the value that a retrieve finds
+  value-found : (i : ℕ) (h : Handle) → valueIn (found s i h) ≡ bytesIn (tables s .escrowValues) (rowFor (tables s) i h)
+  unfolding found rowFor isRow isEscrowed tables boxRecord
+  value-found i h =
+      ap (λ l. valueIn (find (isEscrowed h i (caller s)) l)) (sym (entries-back escrow-lawful (s .escrow)))
+      ∙ found-bytes (isEscrowed h i (caller s)) (isRow h i (caller s)) (tables s .escrowValues) (usedEscrow (tables s)) (λ r. refl)
+
+  log-found : (i : ℕ) (g : Tag) (v : List ℕ)
+      → logged i g v (s .log) ≡ any (isLogRow (tables s .logValues) i g v) (usedLog (tables s))
+  unfolding logged tables boxRecord
+  log-found i g v =
+      ap (any (isLogged i g v)) (sym (entries-back log-lawful (s .log)))
+      ∙ logged-rows i g v (tables s .logValues) (usedLog (tables s))
+
+  pair-there : (v : List ℕ)
+      → any (holdsPair (tables s .logValues) (callerIn (tables s)) v) (usedLog (tables s)) ≡ paired (caller s) v (s .log)
+  unfolding tables boxRecord
+  pair-there v = sym (pair-rows s (state-tables s k) k (caller s) v)
+
+  attest-leaves : (o n : ℕ) → AttestPassed s o n → tables (effect s (attest o n)) ≡ leaves (tables s) (number s (attest o n)) (attest o n)
+  unfolding effect move apply withPair leaves number
+  attest-leaves o n a =
+      let v = ownPart s o n in
+      let size = own-size s o n k (a .runs) (a .fits) in
+      let own = own-bytes s k (a .runs) o n (a .fits) in
+      by-cases (paired (caller s) v (s .log))
+      (λ e. rw (own, pair-there v, e))
+      (λ e.
+      let f = and-other (not (paired (caller s) v (s .log))) _ (not-is _ e) (a .room) in
+      let r = room (s .log) n (k .log .few) f in
+      rw (own, pair-there v, e) (log-more s (pairOf (caller s) v) refl (rw size r)))
+
+  exit-leaves : s .running < 16 → tables (effect s exit) ≡ leaves (tables s) (number s exit) exit
+  unfolding effect move apply leaves tables boxRecord withPlacesIn
+  exit-leaves h =
+      let less = taken-less (s .identities) (s .running) (omega (arith, k .places)) (k .live h) in
+      let map : takenMap (set (s .identities) (s .running) 0) ≡ takenMap (s .identities) - 2 ^ s .running = omega arith in
+      rw (map, flat-set (s .heaps) (sized s k) (s .running) cleared (omega (arith, k .heaps)) cleared-length)
+
+  leaves-is : (c : Call) → refusal s c ≡ 0 → tables (effect s c) ≡ leaves (tables s) (number s c) c
+  unfolding effect move leaves refusal tests beyond
+  leaves-is (create p i) r =
+      unfold apply tables boxRecord withPlacesIn vacant in
+      let r₁ = passed 5 (ltb 15 p) _ r in
+      let h = ltb-false 15 p (failed 5 _ _ r) in
+      let empty = eqb-true (identityAt s p) 0 (not-false _ (failed 6 _ _ r₁)) in
+      rw (taken-more (s .identities) p i (omega (arith, k .places)) empty (eqb-false i 0 (failed 8 _ _ (passed 6 _ _ r₁))))
+  leaves-is (start p) r = unfold apply tables boxRecord withPlacesIn in refl
+  leaves-is yield r = unfold apply tables boxRecord withPlacesIn in refl
+  leaves-is exit r = exit-leaves (busy s k (failed 3 _ _ r))
+  leaves-is (heapWrite p o v) r =
+      own-written s k (busy s k (failed 3 _ _ r)) o v
+      (ltb-false 256 (o + length v) (failed 10 _ _ (passed 7 _ _ (passed 5 _ _ (passed 3 _ _ r)))))
+  leaves-is (heapRead p o n) r = unfold apply in refl
+  leaves-is (sharedWrite o v) r = unfold apply tables boxRecord withShared in refl
+  leaves-is (sharedRead o n) r = unfold apply in refl
+  leaves-is (attest o n) r = attest-leaves o n (attest-passed s o n k r)
+  leaves-is (check i g v) r = unfold apply in refl
+  leaves-is (protect i o n d) r =
+      let a = protect-passed s i o n d k r in
+      let size = own-size s o n k (a .runs) (a .fits) in
+      unfold apply number protected in
+      rw (own-bytes s k (a .runs) o n (a .fits))
+      (escrow-more s (protected s i o n d) refl (rw size (room (s .escrow) n (k .escrow .few) (a .room))))
+  leaves-is (retrieve i o h) r =
+      rw (← value-found i h)
+      (own-written s k (busy s k (failed 3 _ _ r)) o (valueIn (found s i h))
+      (ltb-false 256 _ (failed 10 _ _ (passed 9 _ _ (passed 8 _ _ (passed 3 _ _ r))))))
+  leaves-is report r = unfold apply in refl
+
+  -- ---- what is answered
+
+  length-found : (i : ℕ) (h : Handle) → length (valueIn (found s i h)) ≡ lengthIn (rowFor (tables s) i h)
+  unfolding rowFor lengthIn valueIn
+  length-found i h = found-row s (state-tables s k) k lengthIn (λ x. length (valueIn x)) refl (λ e at. refl) i h
+
+  counts : number s report ≡ ones 16 (tables s .box .taken) + 256 * tables s .box .log .rows + 65536 * tables s .box .escrow .rows
+  unfolding number tables boxRecord
+  counts = rw (← ones-taken (s .identities), k .places)
+
+  counted : (c : Call) (n : ℕ) → countedNumber (tables s) c ≡ some n → number s c ≡ n
+  unfolding countedNumber number
+  counted (create p i) n q = absurd (none-some q)
+  counted (start p) n q = absurd (none-some q)
+  counted yield n q = absurd (none-some q)
+  counted exit n q = absurd (none-some q)
+  counted (heapWrite p o v) n q = absurd (none-some q)
+  counted (heapRead p o m) n q = absurd (none-some q)
+  counted (sharedWrite o v) n q = absurd (none-some q)
+  counted (sharedRead o m) n q = absurd (none-some q)
+  counted (attest o m) n q = absurd (none-some q)
+  counted (check i g v) n q = ap (λ b. cond b 1 0) (log-found i g v) ∙ the-some q
+  counted (protect i o m d) n q = absurd (none-some q)
+  counted (retrieve i o h) n q = length-found i h ∙ the-some q
+  counted report n q = counts ∙ the-some q
+
+  shows-is : (c : Call) → refusal s c ≡ 0 → shown s c ≡ shows (tables s) c
+  unfolding shown shows refusal tests beyond
+  shows-is (create p i) r = refl
+  shows-is (start p) r = refl
+  shows-is yield r = refl
+  shows-is exit r = refl
+  shows-is (heapWrite p o v) r = refl
+  shows-is (heapRead p o n) r =
+      sym (own-bytes s k (busy s k (failed 3 _ _ r)) o n
+      (ltb-false 256 (o + n) (failed 10 _ _ (passed 7 _ _ (passed 5 _ _ (passed 3 _ _ r))))))
+  shows-is (sharedWrite o v) r = refl
+  shows-is (sharedRead o n) r = unfold tables in refl
+  shows-is (attest o n) r = refl
+  shows-is (check i g v) r = refl
+  shows-is (protect i o n d) r = refl
+  shows-is (retrieve i o h) r = refl
+  shows-is report r = refl
+
+-- ---- the promise, of the definition
+
+left-by : (t : Tables) (e : Element) (c : Call) (used : ℕ) → read (e .bytes) ≡ whole c used → callOn t e .answer .code ≡ 0
+    → callOn t e .tables ≡ tables (effect (stateOf t) c)
+unfolding laid accepted
+left-by t e c used y z =
+    let ok = sound-of t e z in
+    let s = stateOf t in
+    let o = on-state t e c used y z in
+    ap (λ x. callOn x e .tables) (sym (o .back)) ∙ ap (λ r. r .tables) (call-is s e (o .valid))
+    ∙ ap (λ r. tables (r .state)) (accepted-call s e c used y (output-size t (e .outputSize) (ok .sizes)) (o .call .passes))
+
+pub does : (t : Tables) (e : Element) (c : Call) (used : ℕ) → read (e .bytes) ≡ whole c used → callOn t e .answer .code ≡ 0
+    → Done t c (callOn t e)
+unfolding accepted
+does t e c used y z =
+    let s = stateOf t in
+    let o = on-state t e c used y z in
+    let n : callOn t e .answer .number ≡ number s c = ap (λ a. a .number) (o .call .is) in
+    record {
+      leaves = left-by t e c used y z ∙ leaves-is s (o .valid) c (o .call .passes) ∙ rw (o .back, n);
+      counted = λ m q. n ∙ counted s (o .valid) c m (ap (λ x. countedNumber x c) (o .back) ∙ q);
+      shows =
+          ap (λ a. a .shown) (o .call .is) ∙ shows-is s (o .valid) c (o .call .passes) ∙ ap (λ x. shows x c) (o .back);
+    }
+
+pub one-call : OneCall callOn
+one-call =
+    record {
+      numbers = each-number;
+      alters-nothing = refusals-alter-nothing;
+      answers = accepted-answers;
+      handles-free = handle-is-first-free;
+      does = does;
+    }
