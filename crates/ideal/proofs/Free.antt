@@ -12,7 +12,7 @@ use Rattle.record.specs.declared.Handle.{Handle}
 use Rattle.record.specs.declared.Draw.{Draw}
 use Rattle.ideal.specs.State.{Escrowed, any}
 use Rattle.ideal.specs.Step.{hasHandle, handleOf, next, freeFrom, freeHandle}
-use Rattle.ideal.specs.Accuracy.{candidate}
+use Rattle.ideal.specs.Accuracy.{iterate, candidate}
 use Rattle.lists.proofs.Bools.{by-cases, clash}
 
 -- ---- more tests than elements, and no element passes two: some test no element passes
@@ -74,11 +74,6 @@ module _ {A : Type 0} where
 abbrev pub Differ : ℕ → (ℕ → ℕ) → Type 0
 Differ n c = (i j : ℕ) → i < j → j < n → c i ≡ c j → ⊥
 
--- f taken k times, from x
-unfoldable pub iterate : (ℕ → ℕ) → ℕ → ℕ → ℕ
-iterate f zero x = x
-iterate f (suc k) x = iterate f k (f x)
-
 pub next-is : (k d : ℕ) → d < 2 ^ 48 → iterate next k d ≡ (d + k) % 2 ^ 48
 unfolding iterate next
 next-is zero d h = omega arith
@@ -90,17 +85,9 @@ next-small k d h = let e = next-is k d h in omega arith
 pub next-differ : (d : ℕ) → d < 2 ^ 48 → Differ 65 (λ k. iterate next k d)
 next-differ d h i j p q e = let a = next-is i d h in let b = next-is j d h in omega arith
 
--- the candidates as the search comes to them
-unfoldable tried : ℕ → ℕ → ℕ → Handle
-tried size draw k = handleOf size (iterate next k draw)
-
-tried-is : (size draw k : ℕ) → draw < 2 ^ 48 → tried size draw k ≡ candidate size draw k
-unfolding tried candidate handleOf
-tried-is size draw k h = rw (next-is k draw h)
-
 -- no row has two of the candidates
-candidates-apart : (size d : ℕ) → d < 2 ^ 48 → Apart 65 (λ k. hasHandle (tried size d k))
-unfolding tried hasHandle handleOf
+candidates-apart : (size d : ℕ) → d < 2 ^ 48 → Apart 65 (λ k. hasHandle (candidate size d k))
+unfolding candidate hasHandle handleOf
 candidates-apart size d h i j p q a e =
     let x = eqb-true (a .key .handle .0) _ e in
     ne-eqb (a .key .handle .0) _ (λ y. next-differ d h i j p q (omega arith))
@@ -111,19 +98,19 @@ candidates-apart size d h i j p q a e =
 record Searched (n size draw : ℕ) (l : List Escrowed) (h : Handle) : Type 0 where
   passed : ℕ
   few : passed ≤ n
-  is : h ≡ tried size draw passed
-  used : (k : ℕ) → k < passed → any (hasHandle (tried size draw k)) l ≡ true
+  is : h ≡ candidate size draw passed
+  used : (k : ℕ) → k < passed → any (hasHandle (candidate size draw k)) l ≡ true
   stops : passed < n → any (hasHandle h) l ≡ false
 
 used-next : (size draw n : ℕ) (l : List Escrowed) → any (hasHandle (handleOf size draw)) l ≡ true
-    → ((k : ℕ) → k < n → any (hasHandle (tried size (next draw) k)) l ≡ true)
-    → (k : ℕ) → k < suc n → any (hasHandle (tried size draw k)) l ≡ true
-unfolding tried iterate
+    → ((k : ℕ) → k < n → any (hasHandle (candidate size (next draw) k)) l ≡ true)
+    → (k : ℕ) → k < suc n → any (hasHandle (candidate size draw k)) l ≡ true
+unfolding candidate iterate
 used-next size draw n l e u zero h = e
 used-next size draw n l e u (suc k) h = u k (omega arith)
 
 searched : (n size draw : ℕ) (l : List Escrowed) → Searched n size draw l (freeFrom n size draw l)
-unfolding freeFrom tried iterate
+unfolding freeFrom candidate iterate
 searched zero size draw l =
     record { passed = 0; few = omega arith; is = refl; used = λ k h. absurd (omega arith); stops = λ h. absurd (omega arith) }
 searched (suc n) size draw l =
@@ -145,7 +132,7 @@ searched (suc n) size draw l =
 
 -- it is in no row, where one of the candidates is in none
 found-free : (n size draw : ℕ) (l : List Escrowed) (h : Handle) → Searched n size draw l h
-    → Unpassed n (λ k. hasHandle (tried size draw k)) l → any (hasHandle h) l ≡ false
+    → Unpassed n (λ k. hasHandle (candidate size draw k)) l → any (hasHandle h) l ≡ false
 found-free n size draw l h r u =
     by-cases (ltb (u .index) (r .passed))
     (λ e. clash _ (r .used (u .index) (ltb-true _ _ e)) (u .none))
@@ -156,7 +143,7 @@ found-free n size draw l h r u =
     let a = ltb-false (u .index) (r .passed) e in
     let b = ltb-false (r .passed) n f in
     let q : r .passed ≡ u .index = omega (arith, u .within, r .few) in
-    ap (λ x. any (hasHandle x) l) (r .is ∙ ap (tried size draw) q) ∙ u .none))
+    ap (λ x. any (hasHandle x) l) (r .is ∙ ap (candidate size draw) q) ∙ u .none))
 
 -- ---- the free handle
 
@@ -173,12 +160,12 @@ module _ (size : ℕ) (d : Draw) (l : List Escrowed) (few : length l ≤ 64) (sm
   unfolding freeHandle
   first-free =
       let r = searched 64 size (d .0) l in
-      let u = unpassed 64 (λ k. hasHandle (tried size (d .0) k)) l few (candidates-apart size (d .0) small) in
+      let u = unpassed 64 (λ k. hasHandle (candidate size (d .0) k)) l few (candidates-apart size (d .0) small) in
       record {
         passed = r .passed;
         few = r .few;
-        is = r .is ∙ tried-is size (d .0) (r .passed) small;
-        used = λ k h. ap (λ x. any (hasHandle x) l) (sym (tried-is size (d .0) k small)) ∙ r .used k h;
+        is = r .is;
+        used = r .used;
         free = found-free 64 size (d .0) l (freeFrom 64 size (d .0) l) r u;
       }
 
@@ -187,5 +174,8 @@ module _ (size : ℕ) (d : Draw) (l : List Escrowed) (few : length l ≤ 64) (sm
 
   -- it carries the length
   pub handle-size : freeHandle size d l .0 / 2 ^ 48 ≡ size
-  unfolding candidate
-  handle-size = let e = ap (λ h. h .0) (first-free .is) in omega arith
+  unfolding candidate handleOf
+  handle-size =
+      let e = ap (λ h. h .0) (first-free .is) in
+      let s = next-small (first-free .passed) (d .0) small in
+      omega arith

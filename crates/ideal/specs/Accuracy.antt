@@ -1,5 +1,5 @@
 -- Demand 2: what a check and a retrieve say about the calls since a fresh box, on the host's tables.
-use Prim.Native.Nat.{ℕ, suc, _+_, _*_, _%_, _^_, _≤_, _<_}
+use Prim.Native.Nat.{ℕ, zero, suc, _+_, _*_, _≤_, _<_}
 use mathlib.Core.Path.{_≡_}
 use mathlib.Core.Logic.{_↔_}
 use mathlib.Core.Bool.{Bool, true, false}
@@ -13,6 +13,7 @@ use Rattle.record.specs.declared.Draw.{Draw}
 use Rattle.record.specs.Call.{attest, check, protect, retrieve}
 use Rattle.record.specs.Read.{whole, read}
 use Rattle.ideal.specs.State.{any}
+use Rattle.ideal.specs.Step.{handleOf, next}
 use Rattle.ideal.specs.Tables.{Tables, usedEscrow}
 use Rattle.ideal.specs.Box.{Element, Result, elementAt, tablesBefore, answerAt}
 use Rattle.ideal.specs.Layouts.{Sound}
@@ -98,9 +99,14 @@ module _ (box : Tables → Element → Result) (es : List Element) where
     pub too-far : (v : List ℕ) → ProtectedBefore k source handle v
         → (answerAt box es k .code ≡ 11) ↔ (Sized k × (256 < offset + length v))
 
--- length times 2^48 plus the draw, the draw + 1, and so on modulo 2^48
+-- f taken k times, from x
+unfoldable pub iterate : (ℕ → ℕ) → ℕ → ℕ → ℕ
+iterate f zero x = x
+iterate f (suc k) x = iterate f k (f x)
+
+-- the handle of the draw, of the next draw, and so on
 unfoldable pub candidate : ℕ → ℕ → ℕ → Handle
-candidate size draw k = record { 0 = size * 2 ^ 48 + (draw + k) % 2 ^ 48 }
+candidate size draw k = handleOf size (iterate next k draw)
 
 -- the handle is in an escrow row
 unfoldable pub handleUsed : Tables → Handle → Bool

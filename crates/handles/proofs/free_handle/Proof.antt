@@ -6,7 +6,8 @@ use lib.ListN.{take}
 use borrow.Author.Tests.{not-true, not-false}
 use Rattle.ideal.specs.Step.{freeFrom, freeHandle}
 use Rattle.ideal.specs.Tables.{escrowTable, entriesOf}
-use Rattle.ideal.proofs.Free.{iterate, next-small}
+use Rattle.ideal.specs.Accuracy.{iterate}
+use Rattle.ideal.proofs.Free.{next-small}
 use Rattle.handles.proofs.Free.{handle-entries, free-here, free-later, free-last}
 use Rattle.handles.proofs.free_handle.Statement.{statement}
 use Rattle.handles.proofs.free_handle.Tie as tie
