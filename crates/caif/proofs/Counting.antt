@@ -34,8 +34,8 @@ CalledResult b log escrow heaps shared lv ev output bytes c heaps′ shared′ l
     resultOf log escrow c heaps′ shared′ lv′ ev′ output′ ≡ entryOn (tablesOf b log escrow heaps shared lv ev) bytes output
 
 -- what is left to show once it has returned c: its rows fit, and `answers` holds of them
-pub record Settles (c : Change) (logRows : List LogRow) (escrowRows : List EscrowRow) (Answers : Type 0) : Type 0 where
-  pub answers : Answers
+pub record Settles (c : Change) (logRows : List LogRow) (escrowRows : List EscrowRow) (Right : Type 0) : Type 0 where
+  pub answers : Right
   pub logFits : RowFits (c .edits .log .put) (c .edits .log .at) logRows
   pub escrowFits : RowFits (c .edits .escrow .put) (c .edits .escrow .at) escrowRows
 

@@ -1,7 +1,7 @@
 -- What the exported functions are given, leave and answer, as the definitions say it.
 use Prim.Native.Nat.{ℕ}
 use mathlib.Core.List.{List}
-use Rattle.record.specs.Write.{Outcome}
+use Rattle.record.specs.Write.{WriteResult}
 use Rattle.ideal.specs.declared.BoxRecord.{BoxRecord}
 use Rattle.ideal.specs.declared.LogRow.{LogRow}
 use Rattle.ideal.specs.declared.EscrowRow.{EscrowRow}
@@ -34,5 +34,5 @@ lentResult r log escrow heaps shared logValues escrowValues output =
     }
 
 -- the writer's answer, with its buffer at exit
-abbrev pub lentOutcome : WrittenReply → (buffer : List ℕ) → Outcome
-lentOutcome r buffer = record { code = r .code; length = r .length; buffer = buffer }
+abbrev pub lentWritten : WrittenReply → (buffer : List ℕ) → WriteResult
+lentWritten r buffer = record { code = r .code; length = r .length; buffer = buffer }

@@ -1,8 +1,8 @@
 // The record of a call, for hosts in C.
 ghost use mathlib.Core.Path.{_≡_};
 ghost use Rattle.record.specs.Write.{writeOn};
-ghost use Rattle.writer.specs.Outcomes.{writtenCode, writtenLength};
-ghost use Rattle.caif.specs.Lent.{lentOutcome};
+ghost use Rattle.writer.specs.Results.{writtenCode, writtenLength};
+ghost use Rattle.caif.specs.Lent.{lentWritten};
 use crate::WrittenReply;
 use record::Fields;
 use writer::Written;
@@ -31,7 +31,7 @@ fn written_length(w: Written) -> usize
 // The record of a call, at the front of out.
 #[no_mangle]
 pub extern "C" fn caif_write(kind: u8, fields: Fields, bytes: &[u8], out: &mut [u8]) -> WrittenReply
-    ensures { λ r. ⌜ lentOutcome r (now (out .exit)) ≡ writeOn kind fields (now (bytes .entry)) (now (out .entry)) ⌝ }
+    ensures { λ r. ⌜ lentWritten r (now (out .exit)) ≡ writeOn kind fields (now (bytes .entry)) (now (out .entry)) ⌝ }
 {
     let w = write_call(kind, fields, bytes, out);
     let code = written_code(w);

@@ -11,7 +11,7 @@ use Rattle.record.specs.Call.{protect}
 use Rattle.ideal.specs.declared.BoxRecord.{BoxRecord}
 use Rattle.ideal.specs.declared.EscrowRow.{EscrowRow}
 use Rattle.ideal.specs.State.{State, escrows, EscrowKey, Escrowed, part, ownPart, heapAt}
-use Rattle.ideal.specs.Step.{freeHandle, full, _then_, accept, first, idle, beyond, tests, refusal, protected, move, apply, effect, number, shown, step}
+use Rattle.ideal.specs.Step.{freeHandle, full, _then_, accept, firstHolding, idle, beyond, tests, refusal, protected, move, apply, effect, number, shown, step}
 use Rattle.ideal.specs.Tables.{Tables, usedBy, boxRecord, tables, stateOf}
 use Rattle.ideal.specs.Box.{Result, laid}
 use Rattle.ideal.proofs.Chain.{failed, passed}
@@ -132,7 +132,7 @@ module _ (t : Tables) (k : Valid (stateOf t)) (e : tables (stateOf t) ≡ t) whe
     unfolding refusal tests protectRefusal idle full fullBy stateOf
     protect-refusal =
         ap (λ u.
-        first
+        firstHolding
         ((4, eqb (t .box .running) 16) then (9, eqb i 0) then (11, beyond 256 o n) then (12, leb (2 ^ 48) (d .0))
         then (14, fullBy u n) then accept)) counts
 

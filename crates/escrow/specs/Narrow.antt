@@ -9,7 +9,7 @@ use Rattle.record.specs.declared.Draw.{Draw}
 use Rattle.ideal.specs.declared.BoxRecord.{BoxRecord}
 use Rattle.ideal.specs.declared.EscrowRow.{EscrowRow}
 use Rattle.ideal.specs.State.{EscrowKey, part}
-use Rattle.ideal.specs.Step.{freeHandle, accept, _then_, first, beyond}
+use Rattle.ideal.specs.Step.{freeHandle, accept, _then_, firstHolding, beyond}
 use Rattle.ideal.specs.Tables.{escrowTable}
 use Rattle.state.specs.Counts.{fullBy}
 use Rattle.state.specs.Parts.{callerOf, heapByte, escrowOf}
@@ -53,12 +53,12 @@ protectUnless refusal b rows values source recipient d v =
 unfoldable pub protectValue : BoxRecord → List EscrowRow → (values : List ℕ) → (source recipient : ℕ) → Draw
     → (value : List ℕ) → Stored
 protectValue b rows values source recipient d v =
-    protectUnless (first ((12, leb (2 ^ 48) (d .0)) then (14, fullBy (b .escrow) (length v)) then accept))
+    protectUnless (firstHolding ((12, leb (2 ^ 48) (d .0)) then (14, fullBy (b .escrow) (length v)) then accept))
     b rows values source recipient d v
 
 unfoldable pub protectRefusal : BoxRecord → (recipient offset size : ℕ) → Draw → ℕ
 protectRefusal b i o n d =
-    first
+    firstHolding
     ((4, eqb (b .running) 16) then (9, eqb i 0) then (11, beyond 256 o n) then (12, leb (2 ^ 48) (d .0))
     then (14, fullBy (b .escrow) n) then accept)
 

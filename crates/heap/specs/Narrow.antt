@@ -7,7 +7,7 @@ use lib.Seq.{sets}
 use lib.Dec.{eqb, ltb}
 use Rattle.ideal.specs.declared.BoxRecord.{BoxRecord}
 use Rattle.ideal.specs.State.{part}
-use Rattle.ideal.specs.Step.{accept, _then_, first, beyond}
+use Rattle.ideal.specs.Step.{accept, _then_, firstHolding, beyond}
 use Rattle.state.specs.declared.Answer.{Answer}
 use Rattle.state.specs.Answers.{settled, answered, showed}
 use Rattle.state.specs.Parts.{heapByte}
@@ -15,7 +15,7 @@ use Rattle.state.specs.Parts.{heapByte}
 -- the tests of the box, on numbers
 unfoldable pub heapRefusal : (running place offset size : ℕ) → ℕ
 heapRefusal r p o n =
-    first ((4, eqb r 16) then (6, ltb 15 p) then (8, not (eqb p r)) then (11, beyond 256 o n) then accept)
+    firstHolding ((4, eqb r 16) then (6, ltb 15 p) then (8, not (eqb p r)) then (11, beyond 256 o n) then accept)
 
 unfoldable pub heapWriteAnswer : BoxRecord → (place offset : ℕ) → List ℕ → Answer
 heapWriteAnswer b p o v = answered (heapRefusal (b .running) p o (length v)) (length v)

@@ -12,7 +12,7 @@ use Rattle.record.specs.declared.Draw.{Draw}
 use Rattle.record.specs.Call.{Call, create, start, yield, exit, heapWrite, heapRead, sharedWrite, sharedRead, attest, check, protect, retrieve, report}
 use Rattle.record.specs.Write.{filled}
 use Rattle.ideal.specs.State.{State, writes, identityAt, caller, ownPart, any}
-use Rattle.ideal.specs.Step.{found, valueIn, pairOf, idle, vacant, beyond, first, tests, refusal, protected, move, apply, effect, number, shown, accepted}
+use Rattle.ideal.specs.Step.{found, valueIn, pairOf, idle, vacant, beyond, firstHolding, tests, refusal, protected, move, apply, effect, number, shown, accepted}
 use Rattle.ideal.specs.Tables.{tables, boxRecord}
 use Rattle.ideal.specs.Refusals.{ownBytes, oneOf}
 use Rattle.ideal.specs.Answers.{plainNumber, Answered}
@@ -147,7 +147,7 @@ module _ (z : Secrets) {s t : State} (k : SameBut z s t) where
       }
 
   same-attest : (o n : ℕ) → NoneTold z s t (attest o n) → refusal s (attest o n) ≡ refusal t (attest o n)
-  unfolding refusal tests first
+  unfolding refusal tests firstHolding
   same-attest o n a =
       by-cases (beyond 256 o n) (λ e. rw (same-idle z k, e))
       (λ e. rw (same-idle z k, same-caller z k, known-attest o n a e, k .log))

@@ -14,7 +14,7 @@ use Rattle.record.specs.Call.{Call, create, start, yield, exit, heapWrite, heap
 use Rattle.record.specs.Write.{filled}
 use Rattle.ideal.specs.declared.EscrowRow.{EscrowRow}
 use Rattle.ideal.specs.State.{Entry, Escrowed, State, caller, any, find}
-use Rattle.ideal.specs.Step.{isPair, paired, full, isEscrowed, found, absent, valueIn, first, idle, vacant, beyond, tests, refusal}
+use Rattle.ideal.specs.Step.{isPair, paired, full, isEscrowed, found, absent, valueIn, firstHolding, idle, vacant, beyond, tests, refusal}
 use Rattle.ideal.specs.Tables.{RowsOf, logTable, escrowTable, rowsFrom, entryOf, entriesOf, boxRecord, tables, usedLog, usedEscrow, stateOf}
 use Rattle.ideal.specs.Valid.{Valid}
 use Rattle.ideal.specs.Refusals.{callerIn, ownBytes, oneOf, isRow, holdsPair, isMissing, lengthIn, callConditions}
@@ -60,7 +60,7 @@ module _ (s : State) (back : stateOf (tables s) ≡ s) (valid : Valid s) where
 
   -- a call's refusal is the first of its conditions that holds
   pub call-first : (c : Call) → refusal s c ≡ firstOf (callConditions (tables s) c)
-  unfolding refusal tests first firstOf callConditions filled oneOf any idle vacant beyond full tables boxRecord isMissing absent lengthIn valueIn
+  unfolding refusal tests firstHolding firstOf callConditions filled oneOf any idle vacant beyond full tables boxRecord isMissing absent lengthIn valueIn
   call-first (create p i) = rw (taken-at (s .identities) p, or-nil (not (eqb (getD (s .identities) p 0) 0)))
   call-first (start p) = rw (taken-at (s .identities) p, Bool·not-not (eqb (getD (s .identities) p 0) 0))
   call-first yield = refl

@@ -11,7 +11,7 @@ use Rattle.fnv.specs.declared.Tag.{Tag}
 use Rattle.record.specs.Call.{Call, attest, check}
 use Rattle.record.specs.Read.{whole, read}
 use Rattle.ideal.specs.State.{State, Logged, any, every, sameBytes}
-use Rattle.ideal.specs.Step.{isLogged, logged, tests, first, refusal, number, accepted}
+use Rattle.ideal.specs.Step.{isLogged, logged, tests, firstHolding, refusal, number, accepted}
 use Rattle.ideal.specs.Tables.{stateOf}
 use Rattle.ideal.specs.Box.{Element, laid, callOn, elementAt}
 use Rattle.ideal.specs.Accuracy.{LogsAt, Says, Sized, CheckAt, LongCheckIsNo}
@@ -26,7 +26,7 @@ use Rattle.ideal.proofs.Does.{attest-passed}
 use Rattle.ideal.proofs.Logs.{logged-since}
 
 check-refusal : (s : State) (i : ℕ) (g : Tag) (v : List ℕ) → (i ≡ 0 → ⊥) → refusal s (check i g v) ≡ 0
-unfolding refusal tests first
+unfolding refusal tests firstHolding
 check-refusal s i g v h = rw (ne-eqb i 0 h)
 
 check-named : (s : State) (i : ℕ) (g : Tag) (v : List ℕ) → refusal s (check i g v) ≡ 0 → i ≡ 0 → ⊥

@@ -11,7 +11,7 @@ use Rattle.record.specs.Read.{whole, read, fromLittle, field, contents, bytesFi
 use Rattle.record.specs.Write.{write, only, recordOf, filled, recordIn}
 use Rattle.fnv.specs.Fnv.{little}
 use Rattle.ideal.specs.State.{State, Move, nothing, takes, activates, empties, writes, shares, logs, escrows, fresh, cleared, heapAt, caller, ownPart, any, find, bytesUsed}
-use Rattle.ideal.specs.Step.{accepted, settle, step as carry, onReading, stepOn, effect, refusal, first, tests, idle, vacant, beyond, full, isEscrowed, found, absent, valueIn, hasHandle, handleOf, next, freeFrom, freeHandle, paired, pairOf, protected, move, apply}
+use Rattle.ideal.specs.Step.{accepted, settle, step as carry, onReading, stepOn, effect, refusal, firstHolding, tests, idle, vacant, beyond, full, isEscrowed, found, absent, valueIn, hasHandle, handleOf, next, freeFrom, freeHandle, paired, pairOf, protected, move, apply}
 use Rattle.ideal.specs.Tables.{boxRecord, tables, freshTables}
 use Rattle.ideal.specs.Box.{laid, callOn, elementAt, tablesFrom, tablesAfter, tablesBefore, answerAt}
 use Rattle.ideal.specs.Refusals.{ownBytes}
@@ -179,7 +179,7 @@ record Computed (a b : ℕ) : Type 0 where
 
 -- on the states, with the bytes left open
 computed : (a b : ℕ) → Computed a b
-unfolding after calls group fresh cleared ownPart any find bytesUsed full isEscrowed found absent valueIn hasHandle handleOf next freeFrom freeHandle paired first idle vacant beyond tests refusal protected move apply effect inside stands kinds among kindOf fromLittle field contents bytesField fields readFields readKind afterMap read only recordOf filled recordIn write little
+unfolding after calls group fresh cleared ownPart any find bytesUsed full isEscrowed found absent valueIn hasHandle handleOf next freeFrom freeHandle paired firstHolding idle vacant beyond tests refusal protected move apply effect inside stands kinds among kindOf fromLittle field contents bytesField fields readFields readKind afterMap read only recordOf filled recordIn write little
 computed a b =
     record {
       accepts =

@@ -13,7 +13,7 @@ use Rattle.record.specs.Read.{Reading, refused, whole, read}
 use Rattle.ideal.specs.declared.BoxRecord.{BoxRecord}
 use Rattle.ideal.specs.declared.Used.{Used}
 use Rattle.ideal.specs.State.{Entry, State, cleared, fresh, every, bytesUsed}
-use Rattle.ideal.specs.Step.{Outcome, refusal, refuse, accepted, settle, step, onReading, stepOn}
+use Rattle.ideal.specs.Step.{Stepped, refusal, refuse, accepted, settle, step, onReading, stepOn}
 use Rattle.ideal.specs.Tables.{Tables, RowsOf, logTable, escrowTable, padded, valuesOf, rowsFrom, rowsOf, entriesOf, takenMap, flat, chunks, boxRecord, tables, usedLog, usedEscrow, stateOf, freshTables}
 use Rattle.ideal.specs.Soundness.{sizesRight, runningTaken, short, hasIdentity, hasIdentities, rightTag, differ, samePair, sameHandle, sound}
 use Rattle.ideal.specs.Box.{Element, laid, callOn, unsound}
@@ -217,7 +217,7 @@ unfolding stepOn
 valid-on s bytes k = valid-reading s (read bytes) k
 
 -- 15 where the output buffer isn't of its size
-unfoldable pub stepElement : State → Element → Outcome
+unfoldable pub stepElement : State → Element → Stepped
 stepElement s e = cond (eqb (e .outputSize) 1024) (stepOn s (e .bytes)) (refuse s 15 0 0)
 
 pub valid-step : (s : State) (e : Element) → Valid s → Valid (stepElement s e .state)

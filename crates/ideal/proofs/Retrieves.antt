@@ -13,7 +13,7 @@ use Rattle.record.specs.declared.Handle.{Handle}
 use Rattle.record.specs.Call.{Call, protect, retrieve}
 use Rattle.record.specs.Read.{whole, read}
 use Rattle.ideal.specs.State.{Escrowed, State, caller, ownPart, writes}
-use Rattle.ideal.specs.Step.{found, absent, valueIn, idle, beyond, tests, first, refusal, move, apply, effect, number}
+use Rattle.ideal.specs.Step.{found, absent, valueIn, idle, beyond, tests, firstHolding, refusal, move, apply, effect, number}
 use Rattle.ideal.specs.Tables.{tables}
 use Rattle.ideal.specs.Box.{Element, callOn, elementAt, tablesBefore, answerAt}
 use Rattle.ideal.specs.Refusals.{ownBytes}
@@ -51,7 +51,7 @@ module _ (s : State) (i o : ℕ) (h : Handle) where
     named : i ≡ 0 → ⊥
 
   was-ready : (n : ℕ) → refusal s (retrieve i o h) ≡ n → (n ≡ 4 → ⊥) → (n ≡ 9 → ⊥) → Ready
-  unfolding refusal tests first
+  unfolding refusal tests firstHolding
   was-ready n e four nine =
       let r : idle s ≡ false = by-cases (idle s) (λ t. absurd (four (sym e ∙ rw t))) (λ f. f) in
       record { runs = r; named = λ z. nine (sym e ∙ rw (r, eq-eqb i 0 z)) }
@@ -69,12 +69,12 @@ module _ (s : State) (i o : ℕ) (h : Handle) where
       at (some x) e = something (x .value) (record { entry = x; is = e; value = refl })
 
   absent-refusal : Ready → found s i h ≡ none → refusal s (retrieve i o h) ≡ 10
-  unfolding refusal tests first absent
+  unfolding refusal tests firstHolding absent
   absent-refusal r e = rw (r .runs, ne-eqb i 0 (r .named), e)
 
   module _ (v : List ℕ) (f : Finds s i h v) where
     found-refusal : Ready → refusal s (retrieve i o h) ≡ cond (ltb 256 (o + length v)) 11 0
-    unfolding refusal tests first absent valueIn beyond
+    unfolding refusal tests firstHolding absent valueIn beyond
     found-refusal r = rw (r .runs, ne-eqb i 0 (r .named), f .is, f .value)
 
     retrieve-effect : effect s (retrieve i o h) ≡ apply s (writes (s .running) o v)

@@ -7,7 +7,7 @@ use lib.Dec.{eqb}
 use Rattle.record.specs.Call.{Call}
 use Rattle.record.specs.Read.{Reading, refused, whole, read}
 use Rattle.ideal.specs.State.{State, caller}
-use Rattle.ideal.specs.Step.{Answer, Outcome, refusal, refusedAnswer, refuse, accepted, settle, step, onReading, stepOn}
+use Rattle.ideal.specs.Step.{Answer, Stepped, refusal, refusedAnswer, refuse, accepted, settle, step, onReading, stepOn}
 use Rattle.ideal.specs.Box.{Element}
 use Rattle.ideal.specs.Secrecy.{EqualAt}
 use Rattle.ideal.proofs.Laid.{stepElement}
@@ -21,7 +21,7 @@ cond-both R true f g = f refl
 cond-both R false f g = g refl
 
 -- where the first state was s; bytes shown by a program whose heap is secret may differ
-pub record Both (z : Secrets) (s : State) (o p : Outcome) : Type 0 where
+pub record Both (z : Secrets) (s : State) (o p : Stepped) : Type 0 where
   pub state : SameBut z (o .state) (p .state)
   pub answer : EqualAt false (z .heap (s .running) (caller s)) (o .answer) (p .answer)
 

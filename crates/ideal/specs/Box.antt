@@ -3,7 +3,7 @@ use Prim.Native.Nat.{ℕ}
 use mathlib.Core.Bool.{_&&_, cond}
 use mathlib.Core.List.{List, [], _∷_, _++_}
 use lib.ListN.{length, getD, take, drop}
-use Rattle.ideal.specs.Step.{Answer, Outcome, refusedAnswer, stepOn}
+use Rattle.ideal.specs.Step.{Answer, Stepped, refusedAnswer, stepOn}
 use Rattle.ideal.specs.Tables.{Tables, tables, stateOf, freshTables}
 use Rattle.ideal.specs.Soundness.{sizesRight, sound}
 
@@ -16,7 +16,7 @@ pub record Result : Type 0 where
   pub tables : Tables
   pub answer : Answer
 
-unfoldable pub laid : Outcome → Result
+unfoldable pub laid : Stepped → Result
 laid o = record { tables = tables (o .state); answer = o .answer }
 
 -- a lent buffer isn't of its size, or the box isn't sound

@@ -10,7 +10,7 @@ use lib.ListN.{length, getD}
 use lib.Dec.{eqb, ltb, leb}
 use Rattle.record.specs.declared.Handle.{Handle}
 use Rattle.record.specs.Call.{Call}
-use Rattle.record.specs.Layout.{stands, Answers, gives, refuses, mapOf}
+use Rattle.record.specs.Layout.{stands, OrRefusal, gives, refuses, mapOf}
 use Rattle.record.specs.Read.{Reading, refused, whole, read, fromLittle}
 use Rattle.record.specs.Write.{filled}
 use Rattle.ideal.specs.declared.LogRow.{LogRow}
@@ -50,7 +50,7 @@ cutField map bs =
     || (stands map 6
     && (ltb (length bs) (at + 2) || ltb (length bs) (at + 2 + fromLittle (part bs at 2))))
 
-unfoldable pub isMap : ℕ → Answers ℕ → Bool
+unfoldable pub isMap : ℕ → OrRefusal ℕ → Bool
 isMap map (gives m) = eqb m map
 isMap map (refuses n) = false
 

@@ -89,9 +89,9 @@ pub data Tests : Type 0 where
   _then_ : ℕ × Bool → Tests → Tests
 
 -- the number of the first test that holds; 0 where none does
-unfoldable pub first : Tests → ℕ
-first accept = 0
-first (t then ts) = cond (t .1) (t .0) (first ts)
+unfoldable pub firstHolding : Tests → ℕ
+firstHolding accept = 0
+firstHolding (t then ts) = cond (t .1) (t .0) (firstHolding ts)
 
 -- none runs
 unfoldable pub idle : State → Bool
@@ -128,7 +128,7 @@ tests s (retrieve i o h) =
 tests s report = accept
 
 unfoldable pub refusal : State → Call → ℕ
-refusal s c = first (tests s c)
+refusal s c = firstHolding (tests s c)
 
 -- ---- what an accepted call does
 
@@ -243,15 +243,15 @@ pub record Answer : Type 0 where
 unfoldable pub refusedAnswer : (code number used : ℕ) → Answer
 refusedAnswer code number used = record { code = code; number = number; used = used; shown = [] }
 
-pub record Outcome : Type 0 where
+pub record Stepped : Type 0 where
   pub state : State
   pub answer : Answer
 
 -- a refusal alters nothing
-unfoldable pub refuse : State → (code number used : ℕ) → Outcome
+unfoldable pub refuse : State → (code number used : ℕ) → Stepped
 refuse s code number used = record { state = s; answer = refusedAnswer code number used }
 
-unfoldable pub accepted : State → Call → ℕ → Outcome
+unfoldable pub accepted : State → Call → ℕ → Stepped
 accepted s c used =
     record {
       state = effect s c;
@@ -259,17 +259,17 @@ accepted s c used =
     }
 
 -- refusal 0 is none
-unfoldable pub settle : ℕ → State → Call → ℕ → Outcome
+unfoldable pub settle : ℕ → State → Call → ℕ → Stepped
 settle zero s c used = accepted s c used
 settle (suc n) s c used = refuse s (suc n) 0 used
 
-unfoldable pub step : State → Call → ℕ → Outcome
+unfoldable pub step : State → Call → ℕ → Stepped
 step s c used = settle (refusal s c) s c used
 
-unfoldable pub onReading : State → Reading → Outcome
+unfoldable pub onReading : State → Reading → Stepped
 onReading s (refused code number) = refuse s code number 0
 onReading s (whole c used) = step s c used
 
 -- a record's bytes, read and carried out
-unfoldable pub stepOn : State → List ℕ → Outcome
+unfoldable pub stepOn : State → List ℕ → Stepped
 stepOn s bytes = onReading s (read bytes)

@@ -13,7 +13,7 @@ use Rattle.record.specs.Call.{Call, attest, check}
 use Rattle.ideal.specs.declared.BoxRecord.{BoxRecord}
 use Rattle.ideal.specs.declared.LogRow.{LogRow}
 use Rattle.ideal.specs.State.{Logged, State, caller, part, ownPart}
-use Rattle.ideal.specs.Step.{paired, logged, full, withPair, withCommon, first, idle, beyond, tests, refusal, move, apply, effect, number, shown, refusedAnswer, refuse, accepted, settle, step}
+use Rattle.ideal.specs.Step.{paired, logged, full, withPair, withCommon, firstHolding, idle, beyond, tests, refusal, move, apply, effect, number, shown, refusedAnswer, refuse, accepted, settle, step}
 use Rattle.ideal.specs.Tables.{Tables, flat, usedBy, boxRecord, tables, stateOf}
 use Rattle.ideal.specs.Box.{Result, laid}
 use Rattle.lists.proofs.Bools.{by-cases, and-other, not-is}
@@ -128,7 +128,7 @@ module _ (s : State) (k : Valid s) (o n used : ℕ) where
         (added s (record { key = record { identity = i; tag = tagOf i v }; value = v }) used (rw size r)))
 
   attest-laid : laid (step s c used) ≡ onLog t (attestOn (t .box) (t .logRows) (t .heaps) (t .logValues) o n) used
-  unfolding step refusal tests first idle attestOn tables boxRecord
+  unfolding step refusal tests firstHolding idle attestOn tables boxRecord
   attest-laid =
       let said = part (t .heaps) (256 * t .box .running + o) n in
       by-cases (idle s)
@@ -153,7 +153,7 @@ check-laid : (s : State) (i : ℕ) (g : Tag) (v : List ℕ) (used : ℕ) → lai
       tables = tables s;
       answer = answerOf (checkOn (tables s .box) (tables s .logRows) (tables s .logValues) i g v) used [];
     }
-unfolding laid step refusal tests first settle refuse refusedAnswer accepted effect move apply number shown checkOn answered tables boxRecord
+unfolding laid step refusal tests firstHolding settle refuse refusedAnswer accepted effect move apply number shown checkOn answered tables boxRecord
 check-laid s i g v used = by-cases (eqb i 0) (λ e. rw e) (λ e. rw (e, entries-back log-lawful (s .log)))
 
 pub check-step : (t : Tables) → Valid (stateOf t) → tables (stateOf t) ≡ t → (i : ℕ) (g : Tag) (v : List ℕ) (used : ℕ)

@@ -10,7 +10,7 @@ use Rattle.fnv.specs.Fnv.{tagOf}
 use Rattle.ideal.specs.declared.BoxRecord.{BoxRecord}
 use Rattle.ideal.specs.declared.LogRow.{LogRow}
 use Rattle.ideal.specs.State.{LogKey, part}
-use Rattle.ideal.specs.Step.{logged, accept, _then_, first, beyond}
+use Rattle.ideal.specs.Step.{logged, accept, _then_, firstHolding, beyond}
 use Rattle.ideal.specs.Tables.{logTable}
 use Rattle.state.specs.declared.Answer.{Answer}
 use Rattle.state.specs.Counts.{fullBy}
@@ -56,7 +56,7 @@ attested refusal b rows values i g v =
 -- the last of attest's tests alone
 unfoldable pub attestValue : BoxRecord → List LogRow → List ℕ → ℕ → Tag → List ℕ → Stored
 attestValue b rows values i g v =
-    let refusal = first ((13, not (logged i g v (logOf b rows values)) && fullBy (b .log) (length v)) then accept) in
+    let refusal = firstHolding ((13, not (logged i g v (logOf b rows values)) && fullBy (b .log) (length v)) then accept) in
     attested refusal b rows values i g v
 
 unfoldable pub attestOn : BoxRecord → (rows : List LogRow) → (heaps values : List ℕ) → (offset size : ℕ) → Stored
@@ -65,7 +65,7 @@ attestOn b rows heaps values o n =
     let v = part heaps (heapByte b o) n in
     let g = tagOf i v in
     let refusal =
-    first
+    firstHolding
     ((4, eqb (b .running) 16) then (11, beyond 256 o n)
     then (13, not (logged i g v (logOf b rows values)) && fullBy (b .log) n) then accept) in
     attested refusal b rows values i g v
@@ -74,4 +74,4 @@ attestOn b rows heaps values o n =
 
 unfoldable pub checkOn : BoxRecord → List LogRow → List ℕ → ℕ → Tag → List ℕ → Answer
 checkOn b rows values i g v =
-    answered (first ((9, eqb i 0) then accept)) (cond (logged i g v (logOf b rows values)) 1 0)
+    answered (firstHolding ((9, eqb i 0) then accept)) (cond (logged i g v (logOf b rows values)) 1 0)

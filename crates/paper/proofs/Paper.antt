@@ -10,7 +10,7 @@ use borrow.Author.Tests.{eqb-true, eq-eqb, ltb-true, ltb-false}
 use Rattle.record.specs.declared.Handle.{Handle}
 use Rattle.record.specs.declared.Draw.{Draw}
 use Rattle.record.specs.Call.{attest, protect, retrieve}
-use Rattle.ideal.specs.Step.{idle, tests, first, refusal}
+use Rattle.ideal.specs.Step.{idle, tests, firstHolding, refusal}
 use Rattle.ideal.specs.Tables.{Tables, stateOf, freshTables}
 use Rattle.ideal.specs.Box.{Element, callOn, elementAt, tablesBefore, answerAt}
 use Rattle.ideal.specs.Refusals.{ownBytes}
@@ -106,7 +106,7 @@ gives-four : (code : ℕ) (x r : Response) → cond (eqb code 0) x (fails code) 
 gives-four code x r h e = sym h ∙ rw e
 
 pub only-services : OnlyServices callOn
-unfolding needsService answerAt refusal tests first
+unfolding needsService answerAt refusal tests firstHolding
 only-services es i (iattest v) r n h =
     let y = event-at es i _ h in
     let w = y .seen .did .was in

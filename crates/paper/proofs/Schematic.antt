@@ -16,7 +16,7 @@ use Rattle.record.specs.Write.{write, filled}
 use Rattle.record.specs.Statements.{ReadsBack, Fits}
 use Rattle.record.proofs.RoundTrip.{reads-back}
 use Rattle.ideal.specs.State.{State, heapAt, caller, part, ownPart}
-use Rattle.ideal.specs.Step.{refusal, tests, first, idle, beyond, protected, move, apply, effect, number, accepted}
+use Rattle.ideal.specs.Step.{refusal, tests, firstHolding, idle, beyond, protected, move, apply, effect, number, accepted}
 use Rattle.ideal.specs.Tables.{Tables, freshTables, boxRecord, tables}
 use Rattle.ideal.specs.Box.{Element, Result, laid, callOn, elementAt, tablesFrom, tablesAfter, tablesBefore}
 use Rattle.ideal.specs.Refusals.{ownBytes}
@@ -136,7 +136,7 @@ written-element s p o w l f r =
 
 write-accepted : (s : State) (o : ℕ) (b : List ℕ) → s .running < 16 → o + length b ≤ 256
     → refusal s (heapWrite (s .running) o b) ≡ 0
-unfolding refusal tests first idle beyond
+unfolding refusal tests firstHolding idle beyond
 write-accepted s o b l f =
     let p = s .running in
     rw (ne-eqb p 16 (λ e. omega arith), le-ltb 15 p (omega arith), eq-eqb p p refl, le-ltb 256 (o + length b) f)

@@ -12,13 +12,13 @@ use borrow.Author.Tests.{lt-ltb, le-ltb}
 use Rattle.reader.specs.declared.Three as three
 use Rattle.reader.specs.declared.Three.the-variants.{Numbers, Cut as CutThree}
 use Rattle.record.specs.declared.Fields.{Fields}
-use Rattle.record.specs.Layout.{Kind, stands, Answers, gives, refuses}
+use Rattle.record.specs.Layout.{Kind, stands, OrRefusal, gives, refuses}
 use Rattle.record.specs.Read.{Reading, refused, cut, whole, field, contents, bytesField, fields}
 use Rattle.reader.specs.Scan.{fieldAt, threeIn, after, threeAt, callOf, ended}
 
 module _ (bs : List ℕ) where
   -- going on from the position after a field
-  abbrev onField : (ℕ → List ℕ → Reading) → Answers (ℕ × ℕ) → Reading
+  abbrev onField : (ℕ → List ℕ → Reading) → OrRefusal (ℕ × ℕ) → Reading
   onField next (gives p) = next (p .0) (drop (p .1) bs)
   onField next (refuses n) = refused n 0
 
@@ -32,11 +32,11 @@ module _ (bs : List ℕ) where
       either true p = refl
       either false p = refl
 
-  abbrev onThree : (ℕ → ℕ → ℕ → List ℕ → Reading) → Answers (ℕ × ℕ × ℕ × ℕ) → Reading
+  abbrev onThree : (ℕ → ℕ → ℕ → List ℕ → Reading) → OrRefusal (ℕ × ℕ × ℕ × ℕ) → Reading
   onThree next (gives p) = next (p .0) (p .1) (p .2) (drop (p .3) bs)
   onThree next (refuses n) = refused n 0
 
-  on-after : (next : ℕ → ℕ → ℕ → List ℕ → Reading) (k : ℕ → List ℕ → Reading) (m : ℕ × ℕ → Answers (ℕ × ℕ × ℕ × ℕ)) (t : Answers (ℕ × ℕ))
+  on-after : (next : ℕ → ℕ → ℕ → List ℕ → Reading) (k : ℕ → List ℕ → Reading) (m : ℕ × ℕ → OrRefusal (ℕ × ℕ × ℕ × ℕ)) (t : OrRefusal (ℕ × ℕ))
       → ((p : ℕ × ℕ) → k (p .0) (drop (p .1) bs) ≡ onThree next (m p)) → onField k t ≡ onThree next (after t m)
   unfolding after
   on-after next k m (gives p) h = h p

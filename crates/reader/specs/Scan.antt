@@ -11,16 +11,16 @@ use Rattle.reader.specs.declared.Three as three
 use Rattle.reader.specs.declared.Three.the-variants.{Numbers, Cut as CutThree}
 use Rattle.record.specs.declared.Fields.{Fields}
 use Rattle.record.specs.Call.{Call, report}
-use Rattle.record.specs.Layout.{Kind, stands, kindOf, Answers, gives, refuses}
+use Rattle.record.specs.Layout.{Kind, stands, kindOf, OrRefusal, gives, refuses}
 use Rattle.record.specs.Read.{Reading, whole, fromLittle, fields}
 
 -- what each case of a field's answer stands for: its number and the position after it, or the refusal 1
-unfoldable pub takenIn : taken.Taken → Answers (ℕ × ℕ)
+unfoldable pub takenIn : taken.Taken → OrRefusal (ℕ × ℕ)
 takenIn (Number x at) = gives (x, at)
 takenIn Cut = refuses 1
 
 -- a field of n bytes at a position: its number, 0 where its bit is down, and the position after it
-unfoldable pub fieldAt : List ℕ → ℕ → Bool → ℕ → Answers (ℕ × ℕ)
+unfoldable pub fieldAt : List ℕ → ℕ → Bool → ℕ → OrRefusal (ℕ × ℕ)
 fieldAt bs at false n = gives (0, at)
 fieldAt bs at true n = cond (ltb (length bs - at) n) (refuses 1) (gives (fromLittle (take n (drop at bs)), at + n))
 
@@ -30,17 +30,17 @@ TakenWithin bs n (Number x at) = (x < 256 ^ n) × (at ≤ length bs)
 TakenWithin bs n Cut = Unit {0}
 
 -- the same of three fields
-unfoldable pub threeIn : three.Three → Answers (ℕ × ℕ × ℕ × ℕ)
+unfoldable pub threeIn : three.Three → OrRefusal (ℕ × ℕ × ℕ × ℕ)
 threeIn (Numbers x y z at) = gives (x, y, z, at)
 threeIn CutThree = refuses 1
 
 -- what follows a value, unless it is refused
-unfoldable pub after : {A B : Type 0} → Answers A → (A → Answers B) → Answers B
+unfoldable pub after : {A B : Type 0} → OrRefusal A → (A → OrRefusal B) → OrRefusal B
 after (gives a) next = next a
 after (refuses n) next = refuses n
 
 -- three fields in a row, of n, 8 and 2 bytes, the first at the map's bit `bit`
-unfoldable pub threeAt : List ℕ → ℕ → ℕ → ℕ → ℕ → Answers (ℕ × ℕ × ℕ × ℕ)
+unfoldable pub threeAt : List ℕ → ℕ → ℕ → ℕ → ℕ → OrRefusal (ℕ × ℕ × ℕ × ℕ)
 threeAt bs at map bit n =
     after (fieldAt bs at (stands map bit) n) λ x.
     after (fieldAt bs (x .1) (stands map (bit + 1)) 8) λ y.

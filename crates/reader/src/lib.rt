@@ -5,7 +5,7 @@ ghost use mathlib.Core.List.{List};
 ghost use lib.ListN.{length, take, drop};
 ghost use Rattle.record.specs.Layout.{kindOf};
 ghost use Rattle.record.specs.Read.{fromLittle, read};
-ghost use Rattle.record.specs.Meaning.{bytesIn, callIn, readingIn, PartWithin, CallWithin, Within};
+ghost use Rattle.record.specs.Meaning.{bytesIn, callIn, readingIn, PartWithin, CallWithin, ReadingWithin};
 ghost use Rattle.reader.specs.Scan.{takenIn, fieldAt, TakenWithin, threeIn, threeAt, ThreeWithin, callOf, fieldsIn};
 use fnv::Tag;
 use record::Call;
@@ -143,7 +143,7 @@ fn call_of(kind: u8, f: Fields, bytes: Part) -> Call
 fn read_fields(bytes: &[u8], kind: u8, map: u8) -> Reading
     requires { ⌜ 2 ≤ length (now bytes) ⌝ }
     ensures { λ r. ⌜ readingIn (now (bytes .entry)) r ≡ fieldsIn (now (bytes .entry)) map kind ⌝ }
-    ensures { λ r. ⌜ Within (now (bytes .entry)) r ⌝ }
+    ensures { λ r. ⌜ ReadingWithin (now (bytes .entry)) r ⌝ }
 {
     let Three::Numbers(place, identity, offset, at) = three_at(bytes, 2, map, 1, 1) else {
         return Reading::Cut;
@@ -176,7 +176,7 @@ fn read_fields(bytes: &[u8], kind: u8, map: u8) -> Reading
 // Refusals in the order: empty, bit 0 down, no kind byte, no such kind, another map, a field cut.
 pub fn read_call(bytes: &[u8]) -> Reading
     ensures { λ r. ⌜ readingIn (now (bytes .entry)) r ≡ read (now (bytes .entry)) ⌝ }
-    ensures { λ r. ⌜ Within (now (bytes .entry)) r ⌝ }
+    ensures { λ r. ⌜ ReadingWithin (now (bytes .entry)) r ⌝ }
 {
     if bytes.len() == 0 {
         return Reading::Cut;

@@ -47,14 +47,14 @@ unfoldable pub kindOf : ℕ → Option Kind
 kindOf n = among kinds n
 
 -- what a part of the box answers: a value, or the number of a refusal
-pub data Answers (A : Type 0) : Type 0 where
-  gives : A → Answers A
-  refuses : ℕ → Answers A
+pub data OrRefusal (A : Type 0) : Type 0 where
+  gives : A → OrRefusal A
+  refuses : ℕ → OrRefusal A
 
-unfoldable pub mapIn : Option Kind → Answers ℕ
+unfoldable pub mapIn : Option Kind → OrRefusal ℕ
 mapIn none = refuses 2
 mapIn (some k) = gives (k .map)
 
 -- a kind's one legal map
-unfoldable pub mapOf : ℕ → Answers ℕ
+unfoldable pub mapOf : ℕ → OrRefusal ℕ
 mapOf n = mapIn (kindOf n)

@@ -10,7 +10,7 @@ use Rattle.record.specs.declared.Reading.the-variants.{Whole, Cut, Unkno
 use Rattle.record.specs.declared.LegalMap as legal
 use Rattle.record.specs.declared.LegalMap.the-variants.{Map, NoSuchKind}
 use Rattle.record.specs.Call.{Call, create, start, yield, exit, heapWrite, heapRead, sharedWrite, sharedRead, attest, check, protect, retrieve, report}
-use Rattle.record.specs.Layout.{Answers, gives, refuses}
+use Rattle.record.specs.Layout.{OrRefusal, gives, refuses}
 use Rattle.record.specs.Read.{Reading, whole, cut, unknown, wrongMap}
 
 -- the bytes of a bytes field
@@ -58,12 +58,12 @@ CallWithin bs (Protect i o n d) = Unit {0}
 CallWithin bs (Retrieve i o h) = Unit {0}
 CallWithin bs Report = Unit {0}
 
-unfoldable pub Within : List ℕ → found.Reading → Type 0
-Within bs (Whole c used) = CallWithin bs c × (used ≤ length bs)
-Within bs Cut = Unit {0}
-Within bs UnknownKind = Unit {0}
-Within bs WrongMap = Unit {0}
+unfoldable pub ReadingWithin : List ℕ → found.Reading → Type 0
+ReadingWithin bs (Whole c used) = CallWithin bs c × (used ≤ length bs)
+ReadingWithin bs Cut = Unit {0}
+ReadingWithin bs UnknownKind = Unit {0}
+ReadingWithin bs WrongMap = Unit {0}
 
-unfoldable pub legalMap : legal.LegalMap → Answers ℕ
+unfoldable pub legalMap : legal.LegalMap → OrRefusal ℕ
 legalMap (Map m) = gives m
 legalMap NoSuchKind = refuses 2

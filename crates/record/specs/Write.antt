@@ -59,17 +59,17 @@ unfoldable pub write : Call → List ℕ
 write c = recordIn (kindOf (filled c .kind)) (filled c .fields) (filled c .bytes)
 
 -- what the writer answers, and what its buffer then holds
-pub record Outcome : Type 0 where
+pub record WriteResult : Type 0 where
   pub code : ℕ
   pub length : ℕ
   pub buffer : List ℕ
 
 -- a refusal leaves the buffer unaltered
-unfoldable pub refusedWrite : ℕ → List ℕ → Outcome
+unfoldable pub refusedWrite : ℕ → List ℕ → WriteResult
 refusedWrite code buffer = record { code = code; length = 0; buffer = buffer }
 
 -- the record at the buffer's front, bytes beyond it unaltered
-unfoldable pub placed : List ℕ → List ℕ → Outcome
+unfoldable pub placed : List ℕ → List ℕ → WriteResult
 placed r buffer = record { code = 0; length = length r; buffer = r ++ drop (length r) buffer }
 
 -- the bytes are more than a count of 2 bytes can say, in a record that has them
@@ -77,7 +77,7 @@ abbrev pub tooMany : ℕ → ℕ → Bool
 tooMany map count = stands map 6 && ltb 65535 count
 
 -- 17: a bytes field over 65,535, or the buffer is shorter than the record
-unfoldable pub writeKind : Option Kind → Fields → List ℕ → List ℕ → Outcome
+unfoldable pub writeKind : Option Kind → Fields → List ℕ → List ℕ → WriteResult
 writeKind none f v buffer = refusedWrite 2 buffer
 writeKind (some k) f v buffer =
     cond (tooMany (k .map) (length v) || ltb (length buffer) (length (write (k .call f v))))
@@ -85,5 +85,5 @@ writeKind (some k) f v buffer =
     (placed (write (k .call f v)) buffer)
 
 -- The writer: fields and bytes that the kind's map lacks are no part of the call, so they do not matter.
-unfoldable pub writeOn : ℕ → Fields → List ℕ → List ℕ → Outcome
+unfoldable pub writeOn : ℕ → Fields → List ℕ → List ℕ → WriteResult
 writeOn n f v buffer = writeKind (kindOf n) f v buffer

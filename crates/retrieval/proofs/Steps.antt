@@ -12,7 +12,7 @@ use Rattle.record.specs.Layout.{gives, refuses}
 use Rattle.ideal.specs.declared.BoxRecord.{BoxRecord}
 use Rattle.ideal.specs.declared.EscrowRow.{EscrowRow}
 use Rattle.ideal.specs.State.{Escrowed, part}
-use Rattle.ideal.specs.Step.{absent, valueIn, first, beyond}
+use Rattle.ideal.specs.Step.{absent, valueIn, firstHolding, beyond}
 use Rattle.ideal.specs.Tables.{escrowTable, entryOf}
 use Rattle.ideal.specs.Fit.{RowsFit}
 use Rattle.ideal.proofs.Table.{part-length}
@@ -20,7 +20,7 @@ use Rattle.state.specs.declared.Answer.{Answer}
 use Rattle.state.specs.Answers.{refusedWith, acceptedWith, settled, answered}
 use Rattle.retrieval.specs.declared.Found.{Found}
 use Rattle.retrieval.specs.declared.Found.the-variants.{At}
-use Rattle.retrieval.specs.Search.{entryFound, sought, Within}
+use Rattle.retrieval.specs.Search.{entryFound, sought, FoundWithin}
 use Rattle.retrieval.specs.Narrow.{foundOn, retrieveRefusal, retrieveAnswer, retrieveHeaps}
 
 abbrev pub rowAt : List EscrowRow → ℕ → EscrowRow
@@ -43,9 +43,9 @@ unfolding sought
 not-given {o = some x} h = cc
 not-given {o = none} h = refl
 
-pub row-found : {i n : ℕ} {values : List ℕ} {rows : List EscrowRow} {entry : Option Escrowed} {f : Found} → f ≡ At i → Within n f
+pub row-found : {i n : ℕ} {values : List ℕ} {rows : List EscrowRow} {entry : Option Escrowed} {f : Found} → f ≡ At i → FoundWithin n f
     → entryFound values rows f ≡ sought entry → RowsFit escrowTable rows n (length values) → RowFound i n values rows entry
-unfolding Within entryFound RowsFit
+unfolding FoundWithin entryFound RowsFit
 row-found {i} {n} {values} {rows} a w e fit =
     let p : i < n = rw a at w in
     let r = rowAt rows i in
@@ -63,11 +63,11 @@ module _ (b : BoxRecord) (rows : List EscrowRow) (values : List ℕ) (source off
   where
     pub retrieve-beyond : ltb 256 (offset + rowAt rows i .length) ≡ true → a ≡ refusedWith 11
         → (a ≡ retrieveAnswer b rows values source offset h) × (heaps ≡ retrieveHeaps b rows heaps values source offset h)
-    unfolding retrieveAnswer retrieveHeaps retrieveRefusal first settled answered absent valueIn beyond
+    unfolding retrieveAnswer retrieveHeaps retrieveRefusal firstHolding settled answered absent valueIn beyond
     retrieve-beyond e f = (rw (busy, known, ← w .is, w .size, e) f, rw (busy, known, ← w .is, w .size, e))
 
     pub retrieve-done : {left : List ℕ} → ltb 256 (offset + rowAt rows i .length) ≡ false → a ≡ acceptedWith (rowAt rows i .length)
         → left ≡ sets heaps (256 * b .running + offset) (part values (rowAt rows i .first) (rowAt rows i .length))
         → (a ≡ retrieveAnswer b rows values source offset h) × (left ≡ retrieveHeaps b rows heaps values source offset h)
-    unfolding retrieveAnswer retrieveHeaps retrieveRefusal first settled answered absent valueIn beyond
+    unfolding retrieveAnswer retrieveHeaps retrieveRefusal firstHolding settled answered absent valueIn beyond
     retrieve-done e f g = (rw (busy, known, ← w .is, w .size, e) f, rw (busy, known, ← w .is, w .size, e) g)

@@ -9,7 +9,7 @@ use Rattle.record.specs.declared.Handle.{Handle}
 use Rattle.ideal.specs.declared.BoxRecord.{BoxRecord}
 use Rattle.ideal.specs.declared.EscrowRow.{EscrowRow}
 use Rattle.ideal.specs.State.{Escrowed, find}
-use Rattle.ideal.specs.Step.{isEscrowed, absent, valueIn, accept, _then_, first, beyond}
+use Rattle.ideal.specs.Step.{isEscrowed, absent, valueIn, accept, _then_, firstHolding, beyond}
 use Rattle.state.specs.declared.Answer.{Answer}
 use Rattle.state.specs.Answers.{settled, answered}
 use Rattle.state.specs.Parts.{callerOf, heapByte, escrowOf}
@@ -21,7 +21,7 @@ foundOn b rows values source h = find (isEscrowed h source (callerOf b)) (escrow
 unfoldable pub retrieveRefusal : BoxRecord → List EscrowRow → List ℕ → (source offset : ℕ) → Handle → ℕ
 retrieveRefusal b rows values i o h =
     let entry = foundOn b rows values i h in
-    first
+    firstHolding
     ((4, eqb (b .running) 16) then (9, eqb i 0) then (10, absent entry)
     then (11, beyond 256 o (length (valueIn entry))) then accept)
 

@@ -7,7 +7,7 @@ ghost use Rattle.ideal.specs.State.{find};
 ghost use Rattle.ideal.specs.Step.{isEscrowed};
 ghost use Rattle.ideal.specs.Tables.{escrowTable, entryOf, entriesOf};
 ghost use Rattle.state.specs.Parts.{TableFits};
-ghost use Rattle.retrieval.specs.Search.{entryFound, sought, Within};
+ghost use Rattle.retrieval.specs.Search.{entryFound, sought, FoundWithin};
 ghost use Rattle.retrieval.specs.Narrow.{retrieveAnswer, retrieveHeaps};
 use buffers::put;
 use ideal::BoxRecord;
@@ -40,7 +40,7 @@ fn row_is(row: EscrowRow, handle: Handle, source: u64, recipient: u64) -> bool
 // The first of the first n rows with this handle, source and recipient.
 fn find_row(rows: [EscrowRow; 64], n: usize, handle: Handle, source: u64, recipient: u64) -> Found
     requires { ⌜ n ≤ 64 ⌝ }
-    ensures { λ r. ⌜ Within n r ⌝ }
+    ensures { λ r. ⌜ FoundWithin n r ⌝ }
     ensures { λ r. ⌜ ((values : List ℕ) → entryFound values rows r ≡ sought (find (isEscrowed handle source recipient) (entriesOf escrowTable values (take n rows)))) ⌝ }
 {
     let mut i: usize = 0;

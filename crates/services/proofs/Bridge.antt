@@ -9,7 +9,7 @@ use lib.Seq.{sets}
 use Rattle.record.specs.Call.{Call, create, start, yield, exit, report}
 use Rattle.ideal.specs.declared.BoxRecord.{BoxRecord}
 use Rattle.ideal.specs.State.{activates, cleared}
-use Rattle.ideal.specs.Step.{accept, first, idle, vacant, tests, refusal, move, apply, effect, number, shown, services, step}
+use Rattle.ideal.specs.Step.{accept, firstHolding, idle, vacant, tests, refusal, move, apply, effect, number, shown, services, step}
 use Rattle.ideal.specs.Tables.{Tables, takenMap, flat, boxRecord, tables, stateOf}
 use Rattle.ideal.specs.Box.{laid}
 use Rattle.ideal.specs.History.{ones}
@@ -139,7 +139,7 @@ module _ (t : Tables) (k : Valid (stateOf t)) (e : tables (stateOf t) ≡ t) whe
 
   pub report-step : (used : ℕ) → laid (step (stateOf t) report used)
       ≡ record { tables = t; answer = answerOf (reportOn (t .box)) used [] }
-  unfolding reportOn refusal tests first settled answered effect move apply number shown tables boxRecord stateOf
+  unfolding reportOn refusal tests firstHolding settled answered effect move apply number shown tables boxRecord stateOf
   report-step used =
       laid-step {n = counts (t .box)} used e
       (record {

@@ -9,7 +9,7 @@ use lib.Seq.{sets}
 use lib.Dec.{eqb, ltb}
 use Rattle.ideal.specs.declared.BoxRecord.{BoxRecord}
 use Rattle.ideal.specs.State.{cleared}
-use Rattle.ideal.specs.Step.{Tests, accept, _then_, first}
+use Rattle.ideal.specs.Step.{Tests, accept, _then_, firstHolding}
 use Rattle.ideal.specs.Tables.{takenMap}
 use Rattle.ideal.specs.History.{ones}
 use Rattle.state.specs.declared.Answer.{Answer}
@@ -65,23 +65,23 @@ settledBox refusal before after number =
     unchanged (settled refusal before after) (answered refusal number)
 
 unfoldable pub createOn : BoxRecord → (place identity : ℕ) → Change
-createOn b p i = settledBox (first (createTests b p i)) b (boxWithIdentity b p i) p
+createOn b p i = settledBox (firstHolding (createTests b p i)) b (boxWithIdentity b p i) p
 
 unfoldable pub startOn : BoxRecord → (place : ℕ) → Change
-startOn b p = settledBox (first (startTests b p)) b (boxWithRunning b p) 0
+startOn b p = settledBox (firstHolding (startTests b p)) b (boxWithRunning b p) 0
 
 unfoldable pub yieldOn : BoxRecord → Change
-yieldOn b = settledBox (first (runningTests b)) b (boxWithRunning b 16) 0
+yieldOn b = settledBox (firstHolding (runningTests b)) b (boxWithRunning b 16) 0
 
 unfoldable pub exitOn : BoxRecord → Change
-exitOn b = settledBox (first (runningTests b)) b (boxAfterExit b) 0
+exitOn b = settledBox (firstHolding (runningTests b)) b (boxAfterExit b) 0
 
 unfoldable pub exitHeaps : BoxRecord → List ℕ → List ℕ
-exitHeaps b heaps = settled (first (runningTests b)) heaps (sets heaps (256 * b .running) cleared)
+exitHeaps b heaps = settled (firstHolding (runningTests b)) heaps (sets heaps (256 * b .running) cleared)
 
 -- services + 256 times log rows + 65,536 times escrow rows; the services are the standing bits of the map
 abbrev pub counts : BoxRecord → ℕ
 counts b = ones 16 (b .taken) + 256 * b .log .rows + 65536 * b .escrow .rows
 
 unfoldable pub reportOn : BoxRecord → Answer
-reportOn b = answered (first accept) (counts b)
+reportOn b = answered (firstHolding accept) (counts b)

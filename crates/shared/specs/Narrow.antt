@@ -4,12 +4,12 @@ use mathlib.Core.List.{List, _++_}
 use lib.ListN.{length, drop}
 use lib.Seq.{sets}
 use Rattle.ideal.specs.State.{part}
-use Rattle.ideal.specs.Step.{accept, _then_, first, beyond}
+use Rattle.ideal.specs.Step.{accept, _then_, firstHolding, beyond}
 use Rattle.state.specs.declared.Answer.{Answer}
 use Rattle.state.specs.Answers.{settled, answered, showed}
 
 unfoldable pub sharedRefusal : (offset size : ℕ) → ℕ
-sharedRefusal o n = first ((11, beyond 1024 o n) then accept)
+sharedRefusal o n = firstHolding ((11, beyond 1024 o n) then accept)
 
 unfoldable pub sharedWriteAnswer : (offset : ℕ) → List ℕ → Answer
 sharedWriteAnswer o v = answered (sharedRefusal o (length v)) (length v)

@@ -7,7 +7,7 @@ use lib.ListN.{length, drop}
 use Rattle.record.specs.Layout.{stands, kinds, among, kindOf}
 use Rattle.record.specs.Read.{fromLittle, field, contents, bytesField, fields, readFields, readKind, afterMap, read}
 use Rattle.ideal.specs.State.{State, fresh, any, bytesUsed}
-use Rattle.ideal.specs.Step.{full, hasHandle, handleOf, freeFrom, freeHandle, first, idle, vacant, beyond, tests, refusal, protected, move, apply, effect, services, number, shown, refusedAnswer, refuse, accepted, settle, step, onReading, stepOn}
+use Rattle.ideal.specs.Step.{full, hasHandle, handleOf, freeFrom, freeHandle, firstHolding, idle, vacant, beyond, tests, refusal, protected, move, apply, effect, services, number, shown, refusedAnswer, refuse, accepted, settle, step, onReading, stepOn}
 use Rattle.ideal.specs.Tables.{tables}
 use Rattle.ideal.specs.Box.{laid}
 use Rattle.ideal.specs.Exam.{hex}
@@ -38,7 +38,7 @@ lines-on (suc n) s (b ∷ bs) v =
     rw (call-on s (b ∷ bs) v, lines-on n (o .state) (drop (o .answer .used) (b ∷ bs)) (valid-on s (b ∷ bs) v))
 
 computed : header ++ linesOn 50 fresh exampleScript ≡ exampleSheet
-unfolding exampleScript exampleSheet hex linesOn bytesOf digitOf decimalIn decimal shownText spaced line header lastCode stops stands kinds among kindOf fromLittle field contents bytesField fields readFields readKind afterMap read fresh any bytesUsed full hasHandle handleOf freeFrom freeHandle first idle vacant beyond tests refusal protected move apply effect services number shown refusedAnswer refuse accepted settle step onReading stepOn
+unfolding exampleScript exampleSheet hex linesOn bytesOf digitOf decimalIn decimal shownText spaced line header lastCode stops stands kinds among kindOf fromLittle field contents bytesField fields readFields readKind afterMap read fresh any bytesUsed full hasHandle handleOf freeFrom freeHandle firstHolding idle vacant beyond tests refusal protected move apply effect services number shown refusedAnswer refuse accepted settle step onReading stepOn
 computed = refl
 
 size : length exampleScript ≡ 50

@@ -9,7 +9,7 @@ ghost use Rattle.fnv.specs.Fnv.{little};
 ghost use Rattle.record.specs.Layout.{kindOf, gives, mapOf, stands};
 ghost use Rattle.record.specs.Write.{only, recordIn, tooMany, writeOn};
 ghost use Rattle.record.specs.Size.{fieldSize, recordSize};
-ghost use Rattle.writer.specs.Outcomes.{wroteOn};
+ghost use Rattle.writer.specs.Results.{wroteOn};
 use record::Fields;
 use record::LegalMap;
 use record::has;

@@ -229,14 +229,14 @@ module _ {M : Type 1} (𝓤 : URA M) (H : Heap 𝓤) (A : Atoms 𝓤) (W : Given
   Fins ws = fsep (finally u8 (name (hs .0)) (ws .0)) (fsep (finally u8 (name (hs .1 .0)) (ws .1 .0)) (fsep (finally u8 (name (hs .1 .1 .0)) (ws .1 .1 .0)) (fsep (finally u8 (name (hs .1 .1 .1 .0)) (ws .1 .1 .1 .0)) (fsep (finally u8 (name (hs .1 .1 .1 .1 .0)) (ws .1 .1 .1 .1 .0)) (fsep ftrue ftrue)))))
 
   -- at exit
-  abbrev Answers : LentReply → List LogRow → List EscrowRow → Left → Type 0
-  Answers r zs₀ zs₁ ws = lentResult r zs₀ zs₁ (ws .0) (ws .1 .0) (ws .1 .1 .0) (ws .1 .1 .1 .0) (ws .1 .1 .1 .1 .0) ≡ entryOn (lentTables held ys₀ ys₁ (now (hs .0)) (now (hs .1 .0)) (now (hs .1 .1 .0)) (now (hs .1 .1 .1 .0))) (now (hs .1 .1 .1 .1 .1 .0)) (now (hs .1 .1 .1 .1 .0))
+  abbrev Right : LentReply → List LogRow → List EscrowRow → Left → Type 0
+  Right r zs₀ zs₁ ws = lentResult r zs₀ zs₁ (ws .0) (ws .1 .0) (ws .1 .1 .0) (ws .1 .1 .1 .0) (ws .1 .1 .1 .1 .0) ≡ entryOn (lentTables held ys₀ ys₁ (now (hs .0)) (now (hs .1 .0)) (now (hs .1 .1 .0)) (now (hs .1 .1 .1 .0))) (now (hs .1 .1 .1 .1 .1 .0)) (now (hs .1 .1 .1 .1 .0))
 
   reply-makes : (r : LentReply) (vs : List Val) → Is R.the-row r vs → ent 𝓤 (emp 𝓤) (sem 𝓤 H A (R.the-row .own r vs))
   reply-makes = LL.makes R.the-type R′.the-plain 𝓤 H A
 
   exits : (r : LentReply) (zs₀ : List LogRow) (zs₁ : List EscrowRow) (ws : Left) → length zs₀ ≡ length ys₀ → length zs₁ ≡ length ys₁ → Lens ws
-      → Answers r zs₀ zs₁ ws → Is R.the-row r (LL.vals R.the-type R′.the-laws r)
+      → Right r zs₀ zs₁ ws → Is R.the-row r (LL.vals R.the-type R′.the-laws r)
       → ent 𝓤 (⋆ 𝓤 H A (‵ (finally T.the-row γ₀ zs₀) ∷ ‵ (flft κ₀ q₀) ∷ ‵ (finally U.the-row γ₁ zs₁) ∷ ‵ (flft κ₁ q₁) ∷ Toks ∷ ‵ (Fins ws) ∷ [])) (Post (LL.val R.the-type R′.the-laws r))
   exits r zs₀ zs₁ ws len₀ len₁ lens e is =
       qed W (‵ (finally T.the-row γ₀ zs₀) ∷ ‵ (flft κ₀ q₀) ∷ ‵ (finally U.the-row γ₁ zs₁) ∷ ‵ (flft κ₁ q₁) ∷ Toks ∷ ‵ (Fins ws) ∷ []) ∵
@@ -337,7 +337,7 @@ module _ {M : Type 1} (𝓤 : URA M) (H : Heap 𝓤) (A : Atoms 𝓤) (W : Given
 
   -- what is left to show: the rows added fit, and once they are added the reply is the entry's result
   abbrev Settled : Change → Left → Type 0
-  Settled r ws = Settles r ys₀ ys₁ (Answers (replyOf r) (logEdited (r .edits .log) ys₀) (escrowEdited (r .edits .escrow) ys₁) ws)
+  Settled r ws = Settles r ys₀ ys₁ (Right (replyOf r) (logEdited (r .edits .log) ys₀) (escrowEdited (r .edits .escrow) ys₁) ws)
 
   settled : length ys₀ ≡ 64 → length ys₁ ≡ 64 → (lr : LogTable) (er : EscrowTable) (r : Change) (ws : Left) → LogRead lr → EscrowRead er
       → Said lr er r ws → Settled r ws
@@ -500,7 +500,7 @@ module _ {M : Type 1} (𝓤 : URA M) (H : Heap 𝓤) (A : Atoms 𝓤) (W : Given
       After P₀ P₁ ws r = ‵ P₀ ∷ ‵ (flft κ₀ q₀) ∷ ‵ P₁ ∷ ‵ (flft κ₁ q₁) ∷ Toks ∷ ‵ (Fins ws) ∷ ForEdits (ForCall (ForReads (ForTest (cell D′.mir l₁₂ (LL.val D.the-type D′.the-laws r) (free E′.mir l₁₁ (free L′.mir l₁₀ Params))))))
 
       ends : (r : Change) (zs₀ : List LogRow) (zs₁ : List EscrowRow) (ws : Left) → length zs₀ ≡ length ys₀ → length zs₁ ≡ length ys₁ → Lens ws
-          → Answers (replyOf r) zs₀ zs₁ ws → Is D.the-row r (LL.vals D.the-type D′.the-laws r)
+          → Right (replyOf r) zs₀ zs₁ ws → Is D.the-row r (LL.vals D.the-type D′.the-laws r)
           → Sq W (After (finally T.the-row γ₀ zs₀) (finally U.the-row γ₁ zs₁) ws r) (runs C Λ En mir.t-28 (atRet En Post))
       ends r zs₀ zs₁ ws len₀ len₁ lens e is =
           -- […; _34 at 6; … _12 at 50; … _0 at 74]

@@ -1,5 +1,5 @@
 use mathlib.Core.Path.{sym}
-use Rattle.record.specs.Meaning.{Within, readingIn}
+use Rattle.record.specs.Meaning.{ReadingWithin, readingIn}
 use Rattle.record.specs.Read.{cut, unknown, wrongMap}
 use Rattle.ideal.specs.Step.{onReading}
 use Rattle.calls.proofs.Whole.{nothing-put, with-used, whole-read, refused-read}
@@ -14,7 +14,7 @@ enum-known-call : tie.Need-enum-known-call
 enum-known-call c = search needs
 
 carry-out-requires : tie.Need-carry-out-requires
-unfolding Within
+unfolding ReadingWithin
 carry-out-requires c κs = (c .before .before .before .before .before .before .before .before .before .before .before .before .before .before .before .pre, (rw (c .before .before .before .before .before .before .call .given .1) at (c .before .before .before .before .before .before .before .before .read-call .ensures .1)) .0)
 
 with-used-requires : tie.Need-with-used-requires

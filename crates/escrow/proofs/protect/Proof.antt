@@ -3,7 +3,7 @@ use native.Mathlib.Nat.{add-sub-cancel-left}
 use native.Mathlib.Omega.{arith}
 use borrow.Author.Needs.{needs}
 use borrow.Author.Tests.{eq-eqb, ne-eqb, lt-ltb, le-ltb}
-use Rattle.ideal.specs.Step.{first, beyond}
+use Rattle.ideal.specs.Step.{firstHolding, beyond}
 use Rattle.ideal.proofs.Table.{part-length}
 use Rattle.state.specs.Answers.{settled}
 use Rattle.escrow.specs.Narrow.{protectUnless, protectValue, protectRefusal, protectOn}
@@ -14,14 +14,14 @@ refuse-requires : tie.Need-refuse-requires
 refuse-requires c κs = search needs
 
 returns : tie.Need-returns
-unfolding protectOn protectRefusal protectUnless first settled
+unfolding protectOn protectRefusal protectUnless firstHolding settled
 returns c = simp (eq-eqb _ _ (c .before .if1 .taken), c .refuse .ensures)
 
 refuse-requires-2 : tie.Need-refuse-requires-2
 refuse-requires-2 c κs = search needs
 
 returns-2 : tie.Need-returns-2
-unfolding protectOn protectRefusal protectUnless first settled
+unfolding protectOn protectRefusal protectUnless firstHolding settled
 returns-2 c = simp (ne-eqb _ _ (c .before .before .if1 .left), eq-eqb _ _ (c .before .if2 .taken), c .refuse2 .ensures)
 
 add-if3 : tie.Need-add-if3
@@ -31,7 +31,7 @@ refuse-requires-3 : tie.Need-refuse-requires-3
 refuse-requires-3 c κs = search needs
 
 returns-3 : tie.Need-returns-3
-unfolding protectOn protectRefusal protectUnless first settled beyond
+unfolding protectOn protectRefusal protectUnless firstHolding settled beyond
 returns-3 c =
     simp (
       ne-eqb _ _ (c .before .before .before .if1 .left),
@@ -74,7 +74,7 @@ same-length : tie.Need-same-length
 same-length c = search needs
 
 returns-4 : tie.Need-returns-4
-unfolding protectOn protectRefusal protectValue first beyond
+unfolding protectOn protectRefusal protectValue firstHolding beyond
 returns-4 c =
     let x = c .before .before .before .before .before .before .before .before .before .before .before .args in
     let a = 256 * x .t1 .running + x .offset in

@@ -1,7 +1,7 @@
 use mathlib.Core.Path.{sym, _∙_}
 use borrow.Author.Needs.{needs}
 use borrow.Author.Tests.{le-leb, lt-leb}
-use Rattle.ideal.specs.Step.{first}
+use Rattle.ideal.specs.Step.{firstHolding}
 use Rattle.state.specs.Answers.{settled}
 use Rattle.escrow.specs.Narrow.{protectUnless, protectValue}
 use Rattle.state.proofs.Rooms.{has-room}
@@ -12,7 +12,7 @@ refuse-requires : tie.Need-refuse-requires
 refuse-requires c κs = search needs
 
 returns : tie.Need-returns
-unfolding protectValue protectUnless first settled
+unfolding protectValue protectUnless firstHolding settled
 returns c = simp (le-leb _ _ (c .before .if1 .taken), c .refuse .ensures)
 
 is-full-requires : tie.Need-is-full-requires
@@ -22,7 +22,7 @@ refuse-requires-2 : tie.Need-refuse-requires-2
 refuse-requires-2 c κs = search needs
 
 returns-2 : tie.Need-returns-2
-unfolding protectValue protectUnless first settled
+unfolding protectValue protectUnless firstHolding settled
 returns-2 c =
     let small = lt-leb _ _ (c .before .before .before .before .if1 .left) in
     simp (small, sym (c .before .before .is-full .ensures) ∙ c .before .if2 .taken, c .refuse2 .ensures)
@@ -46,7 +46,7 @@ same-length : tie.Need-same-length
 same-length c = search needs
 
 returns-3 : tie.Need-returns-3
-unfolding protectValue protectUnless first settled
+unfolding protectValue protectUnless firstHolding settled
 returns-3 c =
     let x = c .before .before .before .before .before .before .before .before .before .before .before .before .before .before .args in
     let small = lt-leb _ _ (c .before .before .before .before .before .before .before .before .before .before .if1 .left) in

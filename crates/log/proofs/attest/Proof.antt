@@ -4,7 +4,7 @@ use native.Mathlib.Omega.{arith}
 use borrow.Author.Tests.{eq-eqb, ne-eqb, lt-ltb, le-ltb}
 use borrow.Author.Needs.{needs}
 use Rattle.ideal.proofs.Table.{part-length}
-use Rattle.ideal.specs.Step.{first, beyond}
+use Rattle.ideal.specs.Step.{firstHolding, beyond}
 use Rattle.state.specs.Answers.{settled}
 use Rattle.log.specs.Narrow.{attested, attestValue, attestOn}
 use Rattle.log.proofs.attest.Statement.{statement}
@@ -14,7 +14,7 @@ refuse-requires : tie.Need-refuse-requires
 refuse-requires c κs = search needs
 
 returns : tie.Need-returns
-unfolding attestOn attested first settled
+unfolding attestOn attested firstHolding settled
 returns c = simp (eq-eqb _ _ (c .before .if1 .taken), c .refuse .ensures)
 
 add-if2 : tie.Need-add-if2
@@ -24,7 +24,7 @@ refuse-requires-2 : tie.Need-refuse-requires-2
 refuse-requires-2 c κs = search needs
 
 returns-2 : tie.Need-returns-2
-unfolding attestOn attested first beyond settled
+unfolding attestOn attested firstHolding beyond settled
 returns-2 c =
     simp (ne-eqb _ _ (c .before .before .if1 .left), lt-ltb _ _ (c .before .if2 .taken), c .refuse2 .ensures)
 
@@ -74,7 +74,7 @@ same-length : tie.Need-same-length
 same-length c = search needs
 
 returns-3 : tie.Need-returns-3
-unfolding attestOn attestValue first beyond
+unfolding attestOn attestValue firstHolding beyond
 returns-3 c =
     let x = c .before .before .before .before .before .before .before .before .before .before .before .before .args in
     let a = 256 * x .t1 .running + x .offset in

@@ -1,7 +1,7 @@
 use mathlib.Core.Path.{sym, _∙_}
 use borrow.Author.Tests.{eq-eqb, ne-eqb}
 use borrow.Author.Needs.{needs}
-use Rattle.ideal.specs.Step.{first}
+use Rattle.ideal.specs.Step.{firstHolding}
 use Rattle.state.specs.Answers.{answered}
 use Rattle.log.specs.Narrow.{checkOn}
 use Rattle.log.proofs.check_pair.Statement.{statement}
@@ -11,7 +11,7 @@ refused-requires : tie.Need-refused-requires
 refused-requires c κs = search needs
 
 returns : tie.Need-returns
-unfolding checkOn first answered
+unfolding checkOn firstHolding answered
 returns c = simp (eq-eqb _ _ (c .before .if1 .taken), c .refused .ensures)
 
 cast-in-log : tie.Need-cast-in-log
@@ -24,7 +24,7 @@ accepted-requires : tie.Need-accepted-requires
 accepted-requires c κs = search needs
 
 returns-2 : tie.Need-returns-2
-unfolding checkOn first answered
+unfolding checkOn firstHolding answered
 returns-2 c =
     simp (
       ne-eqb _ _ (c .before .before .before .before .before .before .if1 .left),
@@ -36,7 +36,7 @@ accepted-requires-2 : tie.Need-accepted-requires-2
 accepted-requires-2 c κs = search needs
 
 returns-3 : tie.Need-returns-3
-unfolding checkOn first answered
+unfolding checkOn firstHolding answered
 returns-3 c =
     simp (
       ne-eqb _ _ (c .before .before .before .before .before .before .if1 .left),

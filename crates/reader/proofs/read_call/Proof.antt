@@ -6,14 +6,14 @@ use borrow.Author.Needs.{needs}
 use borrow.Author.Tests.{not-true, not-false}
 use Rattle.record.specs.Layout.{kindOf, mapOf}
 use Rattle.record.specs.Read.{read, readKind}
-use Rattle.record.specs.Meaning.{readingIn, Within, legalMap}
+use Rattle.record.specs.Meaning.{readingIn, ReadingWithin, legalMap}
 use Rattle.reader.specs.Scan.{fieldsIn}
 use Rattle.reader.proofs.FirstBytes.{empty, bit-down, no-kind-byte, opened, unknown-kind, other-map, same-map}
 use Rattle.reader.proofs.read_call.Statement.{statement}
 use Rattle.reader.proofs.read_call.Tie as tie
 
 returns : tie.Need-returns
-unfolding readingIn Within
+unfolding readingIn ReadingWithin
 returns c = (sym (empty _ (c .if1 .taken)), tt)
 
 shared-slice-read-map : tie.Need-shared-slice-read-map
@@ -23,11 +23,11 @@ has-requires : tie.Need-has-requires
 has-requires c κs = search needs
 
 returns-2 : tie.Need-returns-2
-unfolding readingIn Within
+unfolding readingIn ReadingWithin
 returns-2 c = (sym (bit-down _ (omega arith) (sym (c .before .has .ensures) ∙ not-true _ (c .if2 .taken))), tt)
 
 returns-3 : tie.Need-returns-3
-unfolding readingIn Within
+unfolding readingIn ReadingWithin
 returns-3 c =
     (sym (no-kind-byte _ (c .if3 .taken) (sym (c .before .before .has .ensures) ∙ not-false _ (c .before .if2 .left))), tt)
 
@@ -50,13 +50,13 @@ enum-told : tie.Need-enum-told
 enum-told c = search needs
 
 returns-4 : tie.Need-returns-4
-unfolding readingIn Within legalMap mapOf
+unfolding readingIn ReadingWithin legalMap mapOf
 returns-4 c =
     let no-map = rw (c .enum-told .given .1) at (c .before .before .legal-map .ensures) in
     (sym (both (c .before .before) ∙ unknown-kind _ _ _ _ no-map), tt)
 
 returns-5 : tie.Need-returns-5
-unfolding readingIn Within legalMap mapOf
+unfolding readingIn ReadingWithin legalMap mapOf
 returns-5 c =
     let map = rw (c .before .before .legal .given .1) at (c .before .before .before .before .legal-map .ensures) in
     (sym (both (c .before .before .before .before) ∙ other-map _ _ _ _ _ map (c .if4 .taken)), tt)

@@ -4,7 +4,7 @@ use native.Mathlib.Omega.{arith}
 use lib.ListN.{length}
 use borrow.Author.Needs.{needs}
 use Rattle.record.specs.Read.{bytesField, fields}
-use Rattle.record.specs.Meaning.{bytesIn, readingIn, PartWithin, Within}
+use Rattle.record.specs.Meaning.{bytesIn, readingIn, PartWithin, ReadingWithin}
 use Rattle.reader.specs.Scan.{ThreeWithin, fieldsIn}
 use Rattle.reader.proofs.Positions.{three-at, three-cut, fields-at, contents-cut, ended-at}
 use Rattle.reader.proofs.read_fields.Statement.{statement}
@@ -20,7 +20,7 @@ enum-told : tie.Need-enum-told
 enum-told c = search needs
 
 returns : tie.Need-returns
-unfolding readingIn fieldsIn fields bytesField Within
+unfolding readingIn fieldsIn fields bytesField ReadingWithin
 returns c =
     (sym (three-cut (c .before .before .before .before .args .bytes .now) 2 _ 1 1 _ (c .before .before .three-at .ensures .0) (c .enum-told .given .1)), tt)
 
@@ -41,7 +41,7 @@ enum-told-2 : tie.Need-enum-told-2
 enum-told-2 c = search needs
 
 returns-2 : tie.Need-returns-2
-unfolding readingIn fieldsIn fields bytesField Within
+unfolding readingIn fieldsIn fields bytesField ReadingWithin
 returns-2 c =
     let p = c .before .before .before .before in
     let bs = p .before .before .before .before .args .bytes .now in
@@ -59,7 +59,7 @@ sub-if1 : tie.Need-sub-if1
 sub-if1 c = omega (arith, high (c .before))
 
 returns-3 : tie.Need-returns-3
-unfolding readingIn fieldsIn Within
+unfolding readingIn fieldsIn ReadingWithin
 returns-3 c =
     let s = c .before .before in
     let p = s .before .before .before .before in
@@ -86,7 +86,7 @@ call-of-requires : tie.Need-call-of-requires
 call-of-requires c κs = search needs
 
 returns-4 : tie.Need-returns-4
-unfolding readingIn fieldsIn bytesIn PartWithin Within
+unfolding readingIn fieldsIn bytesIn PartWithin ReadingWithin
 returns-4 c =
     let s = c .before .before .before in
     let p = s .before .before .before .before in

@@ -8,7 +8,7 @@ use borrow.Author.Needs.{needs}
 use Rattle.ideal.specs.State.{find}
 use Rattle.ideal.specs.Step.{isEscrowed}
 use Rattle.ideal.specs.Tables.{escrowTable, entriesOf}
-use Rattle.retrieval.specs.Search.{entryFound, sought, Within}
+use Rattle.retrieval.specs.Search.{entryFound, sought, FoundWithin}
 use Rattle.lists.proofs.Lists.{one-on}
 use Rattle.retrieval.proofs.find_row.Statement.{statement}
 use Rattle.retrieval.proofs.find_row.Tie as tie
@@ -36,7 +36,7 @@ row-is-requires : tie.Need-row-is-requires Inv-loop μ-loop
 row-is-requires c κs = search needs
 
 returns : tie.Need-returns Inv-loop μ-loop
-unfolding Within entryFound sought find entriesOf
+unfolding FoundWithin entryFound sought find entriesOf
 returns c =
     let x = c .before .before .before .before .before .args in
     let l = c .before .before .before .before .loop in
@@ -62,7 +62,7 @@ loop-again c =
     (omega arith, λ values. rw (one, sym (c .before .row-is .ensures values) ∙ c .if1 .left) at (l .inv .1 values))
 
 returns-2 : tie.Need-returns-2 Inv-loop μ-loop
-unfolding Within entryFound sought find entriesOf
+unfolding FoundWithin entryFound sought find entriesOf
 returns-2 c =
     let x = c .before .before .args in
     let q : x .n ≤ length (x .t1) = omega (arith, c .before .before .good .0 .1 .0) in

@@ -5,7 +5,7 @@ use native.Mathlib.Omega.{arith}
 use lib.Dec.{eqb}
 use borrow.Author.Needs.{needs}
 use borrow.Author.Tests.{eq-eqb, ne-eqb, lt-ltb, le-ltb}
-use Rattle.ideal.specs.Step.{absent, first}
+use Rattle.ideal.specs.Step.{absent, firstHolding}
 use Rattle.state.specs.Answers.{settled, answered}
 use Rattle.retrieval.specs.Search.{entryFound}
 use Rattle.retrieval.specs.Narrow.{foundOn, retrieveRefusal, retrieveAnswer, retrieveHeaps}
@@ -17,7 +17,7 @@ refused-requires : tie.Need-refused-requires
 refused-requires c κs = search needs
 
 returns : tie.Need-returns
-unfolding retrieveAnswer retrieveHeaps retrieveRefusal first settled answered
+unfolding retrieveAnswer retrieveHeaps retrieveRefusal firstHolding settled answered
 returns c =
     let e = eq-eqb _ _ (c .before .if1 .taken) in
     (rw e (c .refused .ensures), rw e)
@@ -26,7 +26,7 @@ refused-requires-2 : tie.Need-refused-requires-2
 refused-requires-2 c κs = search needs
 
 returns-2 : tie.Need-returns-2
-unfolding retrieveAnswer retrieveHeaps retrieveRefusal first settled answered
+unfolding retrieveAnswer retrieveHeaps retrieveRefusal firstHolding settled answered
 returns-2 c =
     let e = ne-eqb _ _ (c .before .before .if1 .left) in
     let f = eq-eqb _ _ (c .before .if2 .taken) in
@@ -57,7 +57,7 @@ refused-requires-3 : tie.Need-refused-requires-3
 refused-requires-3 c κs = search needs
 
 returns-3 : tie.Need-returns-3
-unfolding retrieveAnswer retrieveHeaps retrieveRefusal first settled answered entryFound absent
+unfolding retrieveAnswer retrieveHeaps retrieveRefusal firstHolding settled answered entryFound absent
 returns-3 c =
     let x = c .before .before .before .before .before .before .before .before .before .before .before .before .args in
     let e = ne-eqb _ _ (c .before .before .before .before .before .before .before .before .before .if1 .left) in

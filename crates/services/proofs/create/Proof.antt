@@ -4,7 +4,7 @@ use native.Mathlib.Omega.{arith}
 use lib.ListN.{length, length-map}
 use borrow.Author.Needs.{needs}
 use borrow.Author.Tests.{eq-eqb, ne-eqb, lt-ltb, le-ltb}
-use Rattle.ideal.specs.Step.{first}
+use Rattle.ideal.specs.Step.{firstHolding}
 use Rattle.state.specs.Answers.{settled, answered}
 use Rattle.services.specs.Narrow.{createOn}
 use Rattle.services.proofs.Map.{map-taken, map-fits}
@@ -15,7 +15,7 @@ refuse-requires : tie.Need-refuse-requires
 refuse-requires c κs = search needs
 
 returns : tie.Need-returns
-unfolding createOn first settled answered
+unfolding createOn firstHolding settled answered
 returns c =
     rw (c .refuse .ensures, lt-ltb _ _ (c .before .if1 .taken))
 
@@ -29,7 +29,7 @@ refuse-requires-2 : tie.Need-refuse-requires-2
 refuse-requires-2 c κs = search needs
 
 returns-2 : tie.Need-returns-2
-unfolding createOn first settled answered
+unfolding createOn firstHolding settled answered
 returns-2 c =
     rw (c .refuse2 .ensures, le-ltb _ _ (c .before .before .before .if1 .left), ne-eqb _ _ (c .before .if2 .taken))
 
@@ -37,7 +37,7 @@ refuse-requires-3 : tie.Need-refuse-requires-3
 refuse-requires-3 c κs = search needs
 
 returns-3 : tie.Need-returns-3
-unfolding createOn first settled answered
+unfolding createOn firstHolding settled answered
 returns-3 c =
     rw (c .refuse3 .ensures, le-ltb _ _ (c .before .before .before .before .if1 .left), eq-eqb _ _ (c .before .before .if2 .left), eq-eqb _ _ (c .before .if3 .taken))
 
@@ -66,7 +66,7 @@ unedited-requires : tie.Need-unedited-requires
 unedited-requires c κs = search needs
 
 returns-4 : tie.Need-returns-4
-unfolding createOn first settled answered
+unfolding createOn firstHolding settled answered
 returns-4 c =
     let x = c .before .before .before .before .before .before .before .args in
     let n : length (x .t1 .identities) ≡ 16 = sym (length-map (x .t1 .identities) (λ v. v)) ∙ c .before .before .before .before .before .before .before .good .0 .1 .1 .1 .1 .0 .1 .0 .1 in

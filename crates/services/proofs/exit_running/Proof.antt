@@ -9,7 +9,7 @@ use borrow.Author.Needs.{needs}
 use borrow.Author.Tests.{eq-eqb, ne-eqb}
 use borrow.Rule.Slice.PartMut.{putMid, midOf}
 use Rattle.ideal.specs.State.{cleared}
-use Rattle.ideal.specs.Step.{first}
+use Rattle.ideal.specs.Step.{firstHolding}
 use Rattle.ideal.specs.Tables.{takenMap}
 use Rattle.ideal.proofs.Kept.{cleared-length}
 use Rattle.ideal.proofs.Table.{part-length}
@@ -31,7 +31,7 @@ refuse-requires : tie.Need-refuse-requires
 refuse-requires c κs = search needs
 
 returns : tie.Need-returns
-unfolding exitOn exitHeaps first settled answered
+unfolding exitOn exitHeaps firstHolding settled answered
 returns c =
     let e = eq-eqb _ _ (c .before .if1 .taken) in
     (rw (c .refuse .ensures, e), rw e)
@@ -84,7 +84,7 @@ same-length : tie.Need-same-length
 same-length c = search needs
 
 returns-2 : tie.Need-returns-2
-unfolding exitOn exitHeaps first settled answered
+unfolding exitOn exitHeaps firstHolding settled answered
 returns-2 c =
     let b = c .before .before .before .before .before .before .before .before .before .before .args .b in
     let p = c .before .before .before .before .before .before .before .before .before .before .pre in

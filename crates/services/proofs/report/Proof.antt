@@ -1,7 +1,7 @@
 use native.Mathlib.Omega.{arith}
 use lib.Count as Count
 use borrow.Author.Needs.{needs}
-use Rattle.ideal.specs.Step.{first}
+use Rattle.ideal.specs.Step.{firstHolding}
 use Rattle.state.specs.Answers.{answered}
 use Rattle.services.specs.Narrow.{reportOn}
 use Rattle.services.proofs.Ones.{ones-counted}
@@ -39,7 +39,7 @@ accepted-requires : tie.Need-accepted-requires
 accepted-requires c κs = search needs
 
 returns : tie.Need-returns
-unfolding reportOn first answered
+unfolding reportOn firstHolding answered
 returns c =
     let k = ones-counted 16 (c .before .before .before .before .before .before .args .b .taken) (c .before .before .before .struct-known .given .0 .fits) in
     rw (c .accepted .ensures, k)

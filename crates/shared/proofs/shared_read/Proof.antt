@@ -3,7 +3,7 @@ use mathlib.Core.Path.{sym, _∙_}
 use native.Mathlib.Omega.{arith}
 use borrow.Author.Needs.{needs}
 use borrow.Author.Tests.{ltb-false}
-use Rattle.ideal.specs.Step.{first, beyond}
+use Rattle.ideal.specs.Step.{firstHolding, beyond}
 use Rattle.state.specs.Answers.{settled, showed}
 use Rattle.shared.specs.Narrow.{sharedRefusal, sharedReadAnswer, sharedReadOutput}
 use Rattle.shared.proofs.shared_read.Statement.{statement}
@@ -16,7 +16,7 @@ refused-requires : tie.Need-refused-requires
 refused-requires c κs = search needs
 
 returns : tie.Need-returns
-unfolding sharedReadAnswer sharedReadOutput sharedRefusal first beyond settled showed
+unfolding sharedReadAnswer sharedReadOutput sharedRefusal firstHolding beyond settled showed
 returns c =
     let e = sym (c .before .before .beyond .ensures) ∙ c .before .if1 .taken in
     (rw e (c .refused .ensures), rw e)
@@ -34,7 +34,7 @@ same-length : tie.Need-same-length
 same-length c = search needs
 
 returns-2 : tie.Need-returns-2
-unfolding sharedReadAnswer sharedReadOutput sharedRefusal first beyond settled showed
+unfolding sharedReadAnswer sharedReadOutput sharedRefusal firstHolding beyond settled showed
 returns-2 c =
     let e = sym (c .before .before .before .before .before .before .beyond .ensures) ∙ c .before .before .before .before .before .if1 .left in
     (rw e (c .shown .ensures), rw e (c .before .before .before .show .ensures))

@@ -4,7 +4,7 @@ use native.Mathlib.Omega.{arith}
 use lib.ListN.{length}
 use borrow.Author.Needs.{needs}
 use borrow.Author.Tests.{ltb-false}
-use Rattle.ideal.specs.Step.{first, beyond}
+use Rattle.ideal.specs.Step.{firstHolding, beyond}
 use Rattle.state.specs.Answers.{settled, answered}
 use Rattle.shared.specs.Narrow.{sharedRefusal, sharedWriteAnswer, sharedWriteShared}
 use Rattle.shared.proofs.shared_write.Statement.{statement}
@@ -17,7 +17,7 @@ refused-requires : tie.Need-refused-requires
 refused-requires c κs = search needs
 
 returns : tie.Need-returns
-unfolding sharedWriteAnswer sharedWriteShared sharedRefusal first beyond settled answered
+unfolding sharedWriteAnswer sharedWriteShared sharedRefusal firstHolding beyond settled answered
 returns c =
     let e = sym (c .before .before .beyond .ensures) ∙ c .before .if1 .taken in
     (rw e (c .refused .ensures), rw e)
@@ -35,7 +35,7 @@ same-length : tie.Need-same-length
 same-length c = search needs
 
 returns-2 : tie.Need-returns-2
-unfolding sharedWriteAnswer sharedWriteShared sharedRefusal first beyond settled answered
+unfolding sharedWriteAnswer sharedWriteShared sharedRefusal firstHolding beyond settled answered
 returns-2 c =
     let e = sym (c .before .before .before .before .before .before .beyond .ensures) ∙ c .before .before .before .before .before .if1 .left in
     (rw e (c .accepted .ensures), rw e (c .before .before .before .put .ensures))

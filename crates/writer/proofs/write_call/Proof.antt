@@ -8,7 +8,7 @@ use Rattle.record.specs.Layout.{kindOf, gives, mapOf}
 use Rattle.record.specs.Write.{recordIn, refusedWrite, placed}
 use Rattle.record.specs.Size.{recordSize}
 use Rattle.record.specs.Meaning.{legalMap}
-use Rattle.writer.specs.Outcomes.{writtenCode, writtenLength, wroteOn}
+use Rattle.writer.specs.Results.{writtenCode, writtenLength, wroteOn}
 use Rattle.record.proofs.Stores.{sets-front}
 use Rattle.record.proofs.Writing.{write-unknown, write-known, length-laid}
 use Rattle.writer.proofs.write_call.Statement.{statement}

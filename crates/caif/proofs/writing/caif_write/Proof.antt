@@ -1,6 +1,6 @@
 -- `caif::writer::caif_write` meets its contract. Assumes nothing.
 use borrow.Author.Needs.{needs}
-use Rattle.writer.specs.Outcomes.{wroteOn}
+use Rattle.writer.specs.Results.{wroteOn}
 use Rattle.caif.proofs.writing.caif_write.Statement.{statement}
 use Rattle.caif.proofs.writing.caif_write.Tie as tie
 

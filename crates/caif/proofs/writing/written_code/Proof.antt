@@ -1,6 +1,6 @@
 -- `caif::writer::written_code` meets its contract. Assumes nothing.
 use borrow.Author.Needs.{needs}
-use Rattle.writer.specs.Outcomes.{writtenCode}
+use Rattle.writer.specs.Results.{writtenCode}
 use Rattle.caif.proofs.writing.written_code.Statement.{statement}
 use Rattle.caif.proofs.writing.written_code.Tie as tie
 

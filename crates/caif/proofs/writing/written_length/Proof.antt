@@ -1,6 +1,6 @@
 -- `caif::writer::written_length` meets its contract. Assumes nothing.
 use borrow.Author.Needs.{needs}
-use Rattle.writer.specs.Outcomes.{writtenLength}
+use Rattle.writer.specs.Results.{writtenLength}
 use Rattle.caif.proofs.writing.written_length.Statement.{statement}
 use Rattle.caif.proofs.writing.written_length.Tie as tie
 

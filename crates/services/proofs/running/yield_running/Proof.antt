@@ -1,6 +1,6 @@
 use borrow.Author.Needs.{needs}
 use borrow.Author.Tests.{eq-eqb, ne-eqb}
-use Rattle.ideal.specs.Step.{first}
+use Rattle.ideal.specs.Step.{firstHolding}
 use Rattle.state.specs.Answers.{settled, answered}
 use Rattle.services.specs.Narrow.{yieldOn}
 use Rattle.services.proofs.running.yield_running.Statement.{statement}
@@ -10,7 +10,7 @@ refuse-requires : tie.Need-refuse-requires
 refuse-requires c κs = search needs
 
 returns : tie.Need-returns
-unfolding yieldOn first settled answered
+unfolding yieldOn firstHolding settled answered
 returns c =
     rw (c .refuse .ensures, eq-eqb _ _ (c .before .if1 .taken))
 
@@ -21,7 +21,7 @@ unedited-requires : tie.Need-unedited-requires
 unedited-requires c κs = search needs
 
 returns-2 : tie.Need-returns-2
-unfolding yieldOn first settled answered
+unfolding yieldOn firstHolding settled answered
 returns-2 c =
     rw (c .unedited .ensures, c .before .accepted .ensures, ne-eqb _ _ (c .before .before .if1 .left))
 
