@@ -41,7 +41,7 @@ fn bytes_of(bytes: &[u8], part: Part) -> &[u8]
 
 // A call of a kind that alters neither the box record nor a table: it has an answer alone.
 fn answer_alone(
-    b: BoxRecord,
+    held: BoxRecord,
     log: LogTable,
     escrow: EscrowTable,
     heaps: &mut [u8],
@@ -53,13 +53,13 @@ fn answer_alone(
     called: Call,
 ) -> Answer
     requires { ⌜
-        Sound (tablesOf b log escrow (now heaps) (now shared) (now «log_values») (now «escrow_values»)) (length (now output))
+        Sound (tablesOf held log escrow (now heaps) (now shared) (now «log_values») (now «escrow_values»)) (length (now output))
         ⌝ }
     requires { ⌜ CallWithin (now bytes) called ⌝ }
     requires { ⌜ Alone called ⌝ }
     ensures { λ r. ⌜
-        resultOf log escrow (unchanged b r) (now (heaps .exit)) (now (shared .exit)) (now («log_values» .exit)) (now («escrow_values» .exit)) (now (output .exit))
-        ≡ carriedOn (tablesOf b log escrow (now (heaps .entry)) (now (shared .entry)) (now («log_values» .entry)) (now («escrow_values» .entry)))
+        resultOf log escrow (unchanged held r) (now (heaps .exit)) (now (shared .exit)) (now («log_values» .exit)) (now («escrow_values» .exit)) (now (output .exit))
+        ≡ carriedOn (tablesOf held log escrow (now (heaps .entry)) (now (shared .entry)) (now («log_values» .entry)) (now («escrow_values» .entry)))
         (callIn (now (bytes .entry)) called) (now (output .entry))
         ⌝ }
 {
@@ -68,12 +68,12 @@ fn answer_alone(
             place,
             offset,
             bytes: part,
-        } => heap_write(b, heaps, place, offset, bytes_of(bytes, part)),
+        } => heap_write(held, heaps, place, offset, bytes_of(bytes, part)),
         Call::HeapRead {
             place,
             offset,
             length,
-        } => heap_read(b, heaps, output, place, offset, length),
+        } => heap_read(held, heaps, output, place, offset, length),
         Call::SharedWrite {
             offset,
             bytes: part,
@@ -83,19 +83,19 @@ fn answer_alone(
             identity,
             tag,
             bytes: part,
-        } => check_pair(b, log, log_values, identity, tag, bytes_of(bytes, part)),
+        } => check_pair(held, log, log_values, identity, tag, bytes_of(bytes, part)),
         Call::Retrieve {
             identity,
             offset,
             handle,
-        } => retrieve(b, escrow, heaps, escrow_values, identity, offset, handle),
-        _ => report(b),
+        } => retrieve(held, escrow, heaps, escrow_values, identity, offset, handle),
+        _ => report(held),
     }
 }
 
 // A call on a sound box, whoever read it: no byte of a record is used.
 pub fn carry_out(
-    b: BoxRecord,
+    held: BoxRecord,
     log: LogTable,
     escrow: EscrowTable,
     heaps: &mut [u8],
@@ -107,31 +107,31 @@ pub fn carry_out(
     called: Call,
 ) -> Change
     requires { ⌜
-        Sound (tablesOf b log escrow (now heaps) (now shared) (now «log_values») (now «escrow_values»)) (length (now output))
+        Sound (tablesOf held log escrow (now heaps) (now shared) (now «log_values») (now «escrow_values»)) (length (now output))
         ⌝ }
     requires { ⌜ CallWithin (now bytes) called ⌝ }
     ensures { λ r. ⌜
         resultOf log escrow r (now (heaps .exit)) (now (shared .exit)) (now («log_values» .exit)) (now («escrow_values» .exit)) (now (output .exit))
-        ≡ carriedOn (tablesOf b log escrow (now (heaps .entry)) (now (shared .entry)) (now («log_values» .entry)) (now («escrow_values» .entry)))
+        ≡ carriedOn (tablesOf held log escrow (now (heaps .entry)) (now (shared .entry)) (now («log_values» .entry)) (now («escrow_values» .entry)))
         (callIn (now (bytes .entry)) called) (now (output .entry))
         ⌝ }
-    ensures { λ r. ⌜ EditsBy b (r .held) (r .edits) ⌝ }
+    ensures { λ r. ⌜ EditsBy held (r .held) (r .edits) ⌝ }
 {
     match called {
-        Call::Create { place, identity } => create(b, place, identity),
-        Call::Start { place } => start(b, place),
-        Call::Yield => yield_running(b),
-        Call::Exit => exit_running(b, heaps),
-        Call::Attest { offset, length } => attest(b, log, heaps, log_values, offset, length),
+        Call::Create { place, identity } => create(held, place, identity),
+        Call::Start { place } => start(held, place),
+        Call::Yield => yield_running(held),
+        Call::Exit => exit_running(held, heaps),
+        Call::Attest { offset, length } => attest(held, log, heaps, log_values, offset, length),
         Call::Protect {
             identity: to,
             offset,
             length,
             draw,
-        } => protect(b, escrow, heaps, escrow_values, to, offset, length, draw),
+        } => protect(held, escrow, heaps, escrow_values, to, offset, length, draw),
         _ => {
             let a = answer_alone(
-                b,
+                held,
                 log,
                 escrow,
                 heaps,
@@ -142,7 +142,7 @@ pub fn carry_out(
                 bytes,
                 called,
             );
-            unedited(b, a)
+            unedited(held, a)
         }
     }
 }

@@ -29,7 +29,7 @@ fn with_used(change: Change, used: usize) -> Change
 
 // Whether the lent buffers are of their sizes and the box is sound.
 pub fn is_ready(
-    b: BoxRecord,
+    held: BoxRecord,
     log: LogTable,
     escrow: EscrowTable,
     heaps: &[u8],
@@ -39,19 +39,19 @@ pub fn is_ready(
     output: &[u8],
 ) -> bool
     ensures { λ r. ⌜
-        r ≡ readyOn (tablesOf b log escrow (now (heaps .entry)) (now (shared .entry)) (now («log_values» .entry)) (now («escrow_values» .entry)))
+        r ≡ readyOn (tablesOf held log escrow (now (heaps .entry)) (now (shared .entry)) (now («log_values» .entry)) (now («escrow_values» .entry)))
         (length (now (output .entry)))
         ⌝ }
 {
     if !sizes_right(heaps, shared, log_values, escrow_values, output) {
         return false;
     }
-    box_sound(b, log, escrow, heaps, log_values, escrow_values)
+    box_sound(held, log, escrow, heaps, log_values, escrow_values)
 }
 
 // One record on a box that is known to be sound, with buffers of their sizes.
 pub fn call_sound(
-    b: BoxRecord,
+    held: BoxRecord,
     log: LogTable,
     escrow: EscrowTable,
     heaps: &mut [u8],
@@ -62,19 +62,19 @@ pub fn call_sound(
     bytes: &[u8],
 ) -> Change
     requires { ⌜
-        Sound (tablesOf b log escrow (now heaps) (now shared) (now «log_values») (now «escrow_values»)) (length (now output))
+        Sound (tablesOf held log escrow (now heaps) (now shared) (now «log_values») (now «escrow_values»)) (length (now output))
         ⌝ }
     ensures { λ r. ⌜
         resultOf log escrow r (now (heaps .exit)) (now (shared .exit)) (now («log_values» .exit)) (now («escrow_values» .exit)) (now (output .exit))
-        ≡ soundOn (tablesOf b log escrow (now (heaps .entry)) (now (shared .entry)) (now («log_values» .entry)) (now («escrow_values» .entry)))
+        ≡ soundOn (tablesOf held log escrow (now (heaps .entry)) (now (shared .entry)) (now («log_values» .entry)) (now («escrow_values» .entry)))
         (now (bytes .entry)) (now (output .entry))
         ⌝ }
-    ensures { λ r. ⌜ EditsBy b (r .held) (r .edits) ⌝ }
+    ensures { λ r. ⌜ EditsBy held (r .held) (r .edits) ⌝ }
 {
     match read_call(bytes) {
         Reading::Whole { call, used } => {
             let change = carry_out(
-                b,
+                held,
                 log,
                 escrow,
                 heaps,
@@ -87,15 +87,15 @@ pub fn call_sound(
             );
             with_used(change, used)
         }
-        Reading::Cut => refuse(b, 1),
-        Reading::UnknownKind => refuse(b, 2),
-        Reading::WrongMap => refuse(b, 3),
+        Reading::Cut => refuse(held, 1),
+        Reading::UnknownKind => refuse(held, 2),
+        Reading::WrongMap => refuse(held, 3),
     }
 }
 
 // One record on any box, with buffers of any length.
 pub fn call(
-    b: BoxRecord,
+    held: BoxRecord,
     log: LogTable,
     escrow: EscrowTable,
     heaps: &mut [u8],
@@ -107,13 +107,13 @@ pub fn call(
 ) -> Change
     ensures { λ r. ⌜
         resultOf log escrow r (now (heaps .exit)) (now (shared .exit)) (now («log_values» .exit)) (now («escrow_values» .exit)) (now (output .exit))
-        ≡ entryOn (tablesOf b log escrow (now (heaps .entry)) (now (shared .entry)) (now («log_values» .entry)) (now («escrow_values» .entry)))
+        ≡ entryOn (tablesOf held log escrow (now (heaps .entry)) (now (shared .entry)) (now («log_values» .entry)) (now («escrow_values» .entry)))
         (now (bytes .entry)) (now (output .entry))
         ⌝ }
-    ensures { λ r. ⌜ EditsBy b (r .held) (r .edits) ⌝ }
+    ensures { λ r. ⌜ EditsBy held (r .held) (r .edits) ⌝ }
 {
     if !is_ready(
-        b,
+        held,
         log,
         escrow,
         heaps,
@@ -122,10 +122,10 @@ pub fn call(
         escrow_values,
         output,
     ) {
-        return refuse(b, 15);
+        return refuse(held, 15);
     }
     call_sound(
-        b,
+        held,
         log,
         escrow,
         heaps,

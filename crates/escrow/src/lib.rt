@@ -25,17 +25,17 @@ use state::refuse;
 
 // One row and its value more.
 fn escrow_more(
-    b: BoxRecord,
+    held: BoxRecord,
     values: &mut [u8],
     source: u64,
     recipient: u64,
     handle: Handle,
     value: &[u8],
 ) -> Change
-    requires { ⌜ (length (now values) ≡ 4096) × Room (b .escrow) (length (now value)) ⌝ }
-    ensures { λ r. ⌜ stored r (now (values .exit)) ≡ moreEscrow b (now (values .entry)) (record { source = source; recipient = recipient; handle = handle }) (now (value .entry)) ⌝ }
+    requires { ⌜ (length (now values) ≡ 4096) × Room (held .escrow) (length (now value)) ⌝ }
+    ensures { λ r. ⌜ stored r (now (values .exit)) ≡ moreEscrow held (now (values .entry)) (record { source = source; recipient = recipient; handle = handle }) (now (value .entry)) ⌝ }
 {
-    let used = b.escrow;
+    let used = held.escrow;
     let size = value.len() as u16;
     put(value, values, used.bytes as usize);
     let row = EscrowRow {
@@ -49,7 +49,7 @@ fn escrow_more(
         rows: used.rows + 1,
         bytes: used.bytes + size,
     };
-    let mut next = b;
+    let mut next = held;
     next.escrow = raised;
     let edit = EscrowEdit {
         put: true,
@@ -69,7 +69,7 @@ fn escrow_more(
 
 // A value stored under the first free handle.
 fn protect_value(
-    b: BoxRecord,
+    held: BoxRecord,
     escrow: EscrowTable,
     values: &mut [u8],
     source: u64,
@@ -77,24 +77,24 @@ fn protect_value(
     draw: Draw,
     value: &[u8],
 ) -> Change
-    requires { ⌜ (b .escrow .rows ≤ 64) × (length (now values) ≡ 4096) × (length (now value) ≤ 256) ⌝ }
-    ensures { λ r. ⌜ stored r (now (values .exit)) ≡ protectValue b (escrow .rows) (now (values .entry)) source recipient draw (now (value .entry)) ⌝ }
+    requires { ⌜ (held .escrow .rows ≤ 64) × (length (now values) ≡ 4096) × (length (now value) ≤ 256) ⌝ }
+    ensures { λ r. ⌜ stored r (now (values .exit)) ≡ protectValue held (escrow .rows) (now (values .entry)) source recipient draw (now (value .entry)) ⌝ }
 {
     if draw.0 >= 281474976710656 {
-        return refuse(b, 12);
+        return refuse(held, 12);
     }
-    let used = b.escrow;
+    let used = held.escrow;
     if is_full(used, value.len()) {
-        return refuse(b, 14);
+        return refuse(held, 14);
     }
     let rows = escrow.rows;
     let handle = free_handle(rows, used.rows as usize, value.len() as u16, draw);
-    escrow_more(b, values, source, recipient, handle, value)
+    escrow_more(held, values, source, recipient, handle, value)
 }
 
 // The value is the middle part of the heaps that the running place has at the offset.
 pub fn protect(
-    b: BoxRecord,
+    held: BoxRecord,
     escrow: EscrowTable,
     heaps: &[u8],
     values: &mut [u8],
@@ -103,24 +103,24 @@ pub fn protect(
     size: u16,
     draw: Draw,
 ) -> Change
-    requires { ⌜ (b .running ≤ 16) × (length (now heaps) ≡ 4096) × TableFits escrowTable (b .escrow) (escrow .rows) (now values) ⌝ }
-    ensures { λ r. ⌜ stored r (now (values .exit)) ≡ protectOn b (escrow .rows) (now (heaps .entry)) (now (values .entry)) recipient offset size draw ⌝ }
+    requires { ⌜ (held .running ≤ 16) × (length (now heaps) ≡ 4096) × TableFits escrowTable (held .escrow) (escrow .rows) (now values) ⌝ }
+    ensures { λ r. ⌜ stored r (now (values .exit)) ≡ protectOn held (escrow .rows) (now (heaps .entry)) (now (values .entry)) recipient offset size draw ⌝ }
 {
-    if b.running == 16 {
-        return refuse(b, 4);
+    if held.running == 16 {
+        return refuse(held, 4);
     }
     if recipient == 0 {
-        return refuse(b, 9);
+        return refuse(held, 9);
     }
     if offset as usize + size as usize > 256 {
-        return refuse(b, 11);
+        return refuse(held, 11);
     }
-    let place = b.running as usize;
+    let place = held.running as usize;
     let start = 256 * place + offset as usize;
     let end = start + size as usize;
-    let source = b.identities[place];
+    let source = held.identities[place];
     protect_value(
-        b,
+        held,
         escrow,
         values,
         source,

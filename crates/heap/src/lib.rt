@@ -37,12 +37,12 @@ fn heap_byte(place: u8, offset: u16) -> usize
     256 * (place as usize) + offset as usize
 }
 
-pub fn heap_write(b: BoxRecord, heaps: &mut [u8], place: u8, offset: u16, bytes: &[u8]) -> Answer
+pub fn heap_write(held: BoxRecord, heaps: &mut [u8], place: u8, offset: u16, bytes: &[u8]) -> Answer
     requires { ⌜ length (now heaps) ≡ 4096 ⌝ }
-    ensures { λ r. ⌜ r ≡ heapWriteAnswer b place offset (now (bytes .entry)) ⌝ }
-    ensures { λ _. ⌜ now (heaps .exit) ≡ heapWriteHeaps b (now (heaps .entry)) place offset (now (bytes .entry)) ⌝ }
+    ensures { λ r. ⌜ r ≡ heapWriteAnswer held place offset (now (bytes .entry)) ⌝ }
+    ensures { λ _. ⌜ now (heaps .exit) ≡ heapWriteHeaps held (now (heaps .entry)) place offset (now (bytes .entry)) ⌝ }
 {
-    let running = b.running;
+    let running = held.running;
     let n = bytes.len();
     let refusal = heap_refusal(running, place, offset, n);
     if refusal != 0 {
@@ -53,7 +53,7 @@ pub fn heap_write(b: BoxRecord, heaps: &mut [u8], place: u8, offset: u16, bytes:
 }
 
 pub fn heap_read(
-    b: BoxRecord,
+    held: BoxRecord,
     heaps: &[u8],
     output: &mut [u8],
     place: u8,
@@ -61,10 +61,10 @@ pub fn heap_read(
     size: u16,
 ) -> Answer
     requires { ⌜ (length (now heaps) ≡ 4096) × (length (now output) ≡ 1024) ⌝ }
-    ensures { λ r. ⌜ r ≡ heapReadAnswer b place offset size ⌝ }
-    ensures { λ _. ⌜ now (output .exit) ≡ heapReadOutput b (now (heaps .entry)) (now (output .entry)) place offset size ⌝ }
+    ensures { λ r. ⌜ r ≡ heapReadAnswer held place offset size ⌝ }
+    ensures { λ _. ⌜ now (output .exit) ≡ heapReadOutput held (now (heaps .entry)) (now (output .entry)) place offset size ⌝ }
 {
-    let running = b.running;
+    let running = held.running;
     let refusal = heap_refusal(running, place, offset, size as usize);
     if refusal != 0 {
         return refused(refusal);

@@ -27,11 +27,11 @@ use state::refused;
 use state::unedited;
 
 // One row and its value more.
-fn log_more(b: BoxRecord, values: &mut [u8], identity: u64, tag: Tag, value: &[u8]) -> Change
-    requires { ⌜ (length (now values) ≡ 4096) × Room (b .log) (length (now value)) ⌝ }
-    ensures { λ r. ⌜ stored r (now (values .exit)) ≡ moreLog b (now (values .entry)) (record { identity = identity; tag = tag }) (now (value .entry)) ⌝ }
+fn log_more(held: BoxRecord, values: &mut [u8], identity: u64, tag: Tag, value: &[u8]) -> Change
+    requires { ⌜ (length (now values) ≡ 4096) × Room (held .log) (length (now value)) ⌝ }
+    ensures { λ r. ⌜ stored r (now (values .exit)) ≡ moreLog held (now (values .entry)) (record { identity = identity; tag = tag }) (now (value .entry)) ⌝ }
 {
-    let used = b.log;
+    let used = held.log;
     let size = value.len() as u16;
     put(value, values, used.bytes as usize);
     let row = LogRow {
@@ -44,7 +44,7 @@ fn log_more(b: BoxRecord, values: &mut [u8], identity: u64, tag: Tag, value: &[u
         rows: used.rows + 1,
         bytes: used.bytes + size,
     };
-    let mut next = b;
+    let mut next = held;
     next.log = raised;
     let edit = LogEdit {
         put: true,
@@ -64,70 +64,70 @@ fn log_more(b: BoxRecord, values: &mut [u8], identity: u64, tag: Tag, value: &[u
 
 // A value attested with its tag: a pair already logged adds no row, even when the log is full.
 fn attest_value(
-    b: BoxRecord,
+    held: BoxRecord,
     log: LogTable,
     values: &mut [u8],
     identity: u64,
     tag: Tag,
     value: &[u8],
 ) -> Change
-    requires { ⌜ TableFits logTable (b .log) (log .rows) (now values) × (length (now value) ≤ 256) ⌝ }
-    ensures { λ r. ⌜ stored r (now (values .exit)) ≡ attestValue b (log .rows) (now (values .entry)) identity tag (now (value .entry)) ⌝ }
+    requires { ⌜ TableFits logTable (held .log) (log .rows) (now values) × (length (now value) ≤ 256) ⌝ }
+    ensures { λ r. ⌜ stored r (now (values .exit)) ≡ attestValue held (log .rows) (now (values .entry)) identity tag (now (value .entry)) ⌝ }
 {
-    let used = b.log;
+    let used = held.log;
     let rows = log.rows;
     if in_log(rows, used.rows as usize, values, identity, tag, value) {
-        return unedited(b, accepted(tag.0));
+        return unedited(held, accepted(tag.0));
     }
     if is_full(used, value.len()) {
-        return refuse(b, 13);
+        return refuse(held, 13);
     }
-    log_more(b, values, identity, tag, value)
+    log_more(held, values, identity, tag, value)
 }
 
 // Attests a part of the running heap: that middle part of the lent heaps goes to the tag and to the log.
 pub fn attest(
-    b: BoxRecord,
+    held: BoxRecord,
     log: LogTable,
     heaps: &[u8],
     values: &mut [u8],
     offset: u16,
     size: u16,
 ) -> Change
-    requires { ⌜ (b .running ≤ 16) × (length (now heaps) ≡ 4096) × TableFits logTable (b .log) (log .rows) (now values) ⌝ }
-    ensures { λ r. ⌜ stored r (now (values .exit)) ≡ attestOn b (log .rows) (now (heaps .entry)) (now (values .entry)) offset size ⌝ }
+    requires { ⌜ (held .running ≤ 16) × (length (now heaps) ≡ 4096) × TableFits logTable (held .log) (log .rows) (now values) ⌝ }
+    ensures { λ r. ⌜ stored r (now (values .exit)) ≡ attestOn held (log .rows) (now (heaps .entry)) (now (values .entry)) offset size ⌝ }
 {
-    if b.running == 16 {
-        return refuse(b, 4);
+    if held.running == 16 {
+        return refuse(held, 4);
     }
     if offset as usize + size as usize > 256 {
-        return refuse(b, 11);
+        return refuse(held, 11);
     }
-    let place = b.running as usize;
+    let place = held.running as usize;
     let heap = 256 * place;
     let start = heap + offset as usize;
     let end = start + size as usize;
-    let identity = b.identities[place];
+    let identity = held.identities[place];
     let tag = tag_of(identity, &heaps[start..end]);
-    attest_value(b, log, values, identity, tag, &heaps[start..end])
+    attest_value(held, log, values, identity, tag, &heaps[start..end])
 }
 
 // 1 if identity, tag and value are a log row, else 0. No row has more than 256 bytes, so no longer value is found.
 pub fn check_pair(
-    b: BoxRecord,
+    held: BoxRecord,
     log: LogTable,
     values: &[u8],
     identity: u64,
     tag: Tag,
     value: &[u8],
 ) -> Answer
-    requires { ⌜ TableFits logTable (b .log) (log .rows) (now values) ⌝ }
-    ensures { λ r. ⌜ r ≡ checkOn b (log .rows) (now (values .entry)) identity tag (now (value .entry)) ⌝ }
+    requires { ⌜ TableFits logTable (held .log) (log .rows) (now values) ⌝ }
+    ensures { λ r. ⌜ r ≡ checkOn held (log .rows) (now (values .entry)) identity tag (now (value .entry)) ⌝ }
 {
     if identity == 0 {
         return refused(9);
     }
-    let used = b.log;
+    let used = held.log;
     let rows = log.rows;
     if in_log(rows, used.rows as usize, values, identity, tag, value) {
         return accepted(1);

@@ -56,7 +56,7 @@ fn find_row(rows: [EscrowRow; 64], n: usize, handle: Handle, source: u64, recipi
 
 // The value of the row goes into the running heap at the offset.
 pub fn retrieve(
-    b: BoxRecord,
+    held: BoxRecord,
     escrow: EscrowTable,
     heaps: &mut [u8],
     values: &[u8],
@@ -64,20 +64,20 @@ pub fn retrieve(
     offset: u16,
     handle: Handle,
 ) -> Answer
-    requires { ⌜ (b .running ≤ 16) × (length (now heaps) ≡ 4096) × TableFits escrowTable (b .escrow) (escrow .rows) (now values) ⌝ }
-    ensures { λ r. ⌜ r ≡ retrieveAnswer b (escrow .rows) (now (values .entry)) source offset handle ⌝ }
-    ensures { λ _. ⌜ now (heaps .exit) ≡ retrieveHeaps b (escrow .rows) (now (heaps .entry)) (now (values .entry)) source offset handle ⌝ }
+    requires { ⌜ (held .running ≤ 16) × (length (now heaps) ≡ 4096) × TableFits escrowTable (held .escrow) (escrow .rows) (now values) ⌝ }
+    ensures { λ r. ⌜ r ≡ retrieveAnswer held (escrow .rows) (now (values .entry)) source offset handle ⌝ }
+    ensures { λ _. ⌜ now (heaps .exit) ≡ retrieveHeaps held (escrow .rows) (now (heaps .entry)) (now (values .entry)) source offset handle ⌝ }
 {
-    if b.running == 16 {
+    if held.running == 16 {
         return refused(4);
     }
     if source == 0 {
         return refused(9);
     }
-    let place = b.running as usize;
-    let used = b.escrow;
+    let place = held.running as usize;
+    let used = held.escrow;
     let rows = escrow.rows;
-    let recipient = b.identities[place];
+    let recipient = held.identities[place];
     let Found::At(i) = find_row(rows, used.rows as usize, handle, source, recipient) else {
         return refused(10);
     };

@@ -23,54 +23,54 @@ fn bit_of(place: u8) -> u16
     1u16 << place
 }
 
-pub fn create(b: BoxRecord, place: u8, identity: u64) -> Change
-    requires { ⌜ b .taken ≡ takenMap (b .identities) ⌝ }
-    ensures { λ r. ⌜ r ≡ createOn b place identity ⌝ }
+pub fn create(held: BoxRecord, place: u8, identity: u64) -> Change
+    requires { ⌜ held .taken ≡ takenMap (held .identities) ⌝ }
+    ensures { λ r. ⌜ r ≡ createOn held place identity ⌝ }
 {
     if place > 15 {
-        return refuse(b, 6);
+        return refuse(held, 6);
     }
     let p = place as usize;
-    if b.identities[p] != 0 {
-        return refuse(b, 7);
+    if held.identities[p] != 0 {
+        return refuse(held, 7);
     }
     if identity == 0 {
-        return refuse(b, 9);
+        return refuse(held, 9);
     }
-    let taken = b.taken + bit_of(place);
-    let mut next = b;
+    let taken = held.taken + bit_of(place);
+    let mut next = held;
     next.taken = taken;
     next.identities[p] = identity;
     unedited(next, accepted(place as u64))
 }
 
 // The heap is cleared here, not at the next create.
-pub fn exit_running(b: BoxRecord, heaps: &mut [u8]) -> Change
-    requires { ⌜ Leaving b (now heaps) ⌝ }
-    ensures { λ r. ⌜ r ≡ exitOn b ⌝ }
-    ensures { λ r. ⌜ now (heaps .exit) ≡ exitHeaps b (now (heaps .entry)) ⌝ }
+pub fn exit_running(held: BoxRecord, heaps: &mut [u8]) -> Change
+    requires { ⌜ Leaving held (now heaps) ⌝ }
+    ensures { λ r. ⌜ r ≡ exitOn held ⌝ }
+    ensures { λ r. ⌜ now (heaps .exit) ≡ exitHeaps held (now (heaps .entry)) ⌝ }
 {
-    let place = b.running;
+    let place = held.running;
     if place == 16 {
-        return refuse(b, 4);
+        return refuse(held, 4);
     }
     let p = place as usize;
     let first = 256 * p;
     let end = first + 256;
     clear(&mut heaps[first..end]);
-    let left = b.taken - bit_of(place);
-    let mut next = b;
+    let left = held.taken - bit_of(place);
+    let mut next = held;
     next.taken = left;
     next.identities[p] = 0;
     next.running = 16;
     unedited(next, accepted(0))
 }
 
-pub fn report(b: BoxRecord) -> Answer
-    ensures { λ r. ⌜ r ≡ reportOn b ⌝ }
+pub fn report(held: BoxRecord) -> Answer
+    ensures { λ r. ⌜ r ≡ reportOn held ⌝ }
 {
-    let log = b.log;
-    let escrow = b.escrow;
-    let services = u16::count_ones(b.taken);
+    let log = held.log;
+    let escrow = held.escrow;
+    let services = u16::count_ones(held.taken);
     accepted(services as u64 + 256 * (log.rows as u64) + 65536 * (escrow.rows as u64))
 }

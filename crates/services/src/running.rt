@@ -7,32 +7,32 @@ use state::accepted;
 use state::refuse;
 use state::unedited;
 
-pub fn start(b: BoxRecord, place: u8) -> Change
-    ensures { λ r. ⌜ r ≡ startOn b place ⌝ }
+pub fn start(held: BoxRecord, place: u8) -> Change
+    ensures { λ r. ⌜ r ≡ startOn held place ⌝ }
 {
-    if b.running != 16 {
-        return refuse(b, 5);
+    if held.running != 16 {
+        return refuse(held, 5);
     }
     if place > 15 {
-        return refuse(b, 6);
+        return refuse(held, 6);
     }
     let p = place as usize;
-    if b.identities[p] == 0 {
-        return refuse(b, 7);
+    if held.identities[p] == 0 {
+        return refuse(held, 7);
     }
-    let mut next = b;
+    let mut next = held;
     next.running = place;
     unedited(next, accepted(0))
 }
 
 // The heap is left as it is.
-pub fn yield_running(b: BoxRecord) -> Change
-    ensures { λ r. ⌜ r ≡ yieldOn b ⌝ }
+pub fn yield_running(held: BoxRecord) -> Change
+    ensures { λ r. ⌜ r ≡ yieldOn held ⌝ }
 {
-    if b.running == 16 {
-        return refuse(b, 4);
+    if held.running == 16 {
+        return refuse(held, 4);
     }
-    let mut next = b;
+    let mut next = held;
     next.running = 16;
     unedited(next, accepted(0))
 }

@@ -42,7 +42,7 @@ pub fn sizes_right(
 
 // Whether the box is sound, whatever the shared memory holds. Called once the sizes are right.
 pub fn box_sound(
-    b: BoxRecord,
+    held: BoxRecord,
     log: LogTable,
     escrow: EscrowTable,
     heaps: &[u8],
@@ -50,17 +50,17 @@ pub fn box_sound(
     escrow_values: &[u8],
 ) -> bool
     requires { ⌜ Lent (now heaps) (now «log_values») (now «escrow_values») ⌝ }
-    ensures { λ r. ⌜ ((shared : List ℕ) → r ≡ sound (tablesOf b log escrow (now (heaps .entry)) shared (now («log_values» .entry)) (now («escrow_values» .entry)))) ⌝ }
+    ensures { λ r. ⌜ ((shared : List ℕ) → r ≡ sound (tablesOf held log escrow (now (heaps .entry)) shared (now («log_values» .entry)) (now («escrow_values» .entry)))) ⌝ }
 {
-    if !places_sound(b, heaps) {
+    if !places_sound(held, heaps) {
         return false;
     }
     let log_rows = log.rows;
-    let log_used = b.log;
+    let log_used = held.log;
     if !log_sound(log_rows, log_values, log_used) {
         return false;
     }
     let escrow_rows = escrow.rows;
-    let escrow_used = b.escrow;
+    let escrow_used = held.escrow;
     escrow_sound(escrow_rows, escrow_values, escrow_used)
 }

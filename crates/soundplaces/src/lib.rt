@@ -70,15 +70,15 @@ fn heaps_sound(identities: [u64; 16], heaps: &[u8]) -> bool
     true
 }
 
-pub fn places_sound(b: BoxRecord, heaps: &[u8]) -> bool
+pub fn places_sound(held: BoxRecord, heaps: &[u8]) -> bool
     requires { ⌜ length (now heaps) ≡ 4096 ⌝ }
-    ensures { λ r. ⌜ r ≡ placesSound b (now (heaps .entry)) ⌝ }
+    ensures { λ r. ⌜ r ≡ placesSound held (now (heaps .entry)) ⌝ }
 {
-    let identities = b.identities;
-    if b.taken != taken_map(identities) {
+    let identities = held.identities;
+    if held.taken != taken_map(identities) {
         return false;
     }
-    if !running_taken(b.running, b.taken) {
+    if !running_taken(held.running, held.taken) {
         return false;
     }
     heaps_sound(identities, heaps)

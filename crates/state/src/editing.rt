@@ -35,14 +35,14 @@ pub fn no_escrow_edit() -> EscrowEdit
 }
 
 // A call that puts no row.
-pub fn unedited(b: BoxRecord, answer: Answer) -> Change
-    ensures { λ r. ⌜ r ≡ unchanged b answer ⌝ }
+pub fn unedited(held: BoxRecord, answer: Answer) -> Change
+    ensures { λ r. ⌜ r ≡ unchanged held answer ⌝ }
 {
     let log = no_log_edit();
     let escrow = no_escrow_edit();
     let edits = Edits { log, escrow };
     Change {
-        held: b,
+        held,
         edits,
         answer,
     }

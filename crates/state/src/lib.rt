@@ -95,8 +95,8 @@ pub fn shown(size: u16) -> Answer
 }
 
 // A refusal leaves the box record, and puts no row.
-pub fn refuse(b: BoxRecord, code: u8) -> Change
-    ensures { λ r. ⌜ r ≡ unchanged b (refusedWith code) ⌝ }
+pub fn refuse(held: BoxRecord, code: u8) -> Change
+    ensures { λ r. ⌜ r ≡ unchanged held (refusedWith code) ⌝ }
 {
-    unedited(b, refused(code))
+    unedited(held, refused(code))
 }

@@ -49,7 +49,7 @@ fn write_answer(answer: Answer, output: &[u8], out: &mut [u8]) -> usize
 
 // The record at the front of rest on a sound box, and its line at the front of out. A line has at most 2,113 bytes.
 pub fn next_line(
-    b: BoxRecord,
+    held: BoxRecord,
     log: LogTable,
     escrow: EscrowTable,
     heaps: &mut [u8],
@@ -60,21 +60,21 @@ pub fn next_line(
     out: &mut [u8],
 ) -> NextLine
     requires { ⌜
-        Sound (tablesOf b log escrow (now heaps) (now shared) (now «log_values») (now «escrow_values»)) 1024
+        Sound (tablesOf held log escrow (now heaps) (now shared) (now «log_values») (now «escrow_values»)) 1024
         × (2113 ≤ length (now out))
         ⌝ }
     ensures { λ r. ⌜
         TurnMade
         (turnOf log escrow r (now (heaps .exit)) (now (shared .exit)) (now («log_values» .exit)) (now («escrow_values» .exit)) (now (out .exit)))
-        (turn (tablesOf b log escrow (now (heaps .entry)) (now (shared .entry)) (now («log_values» .entry)) (now («escrow_values» .entry)))
+        (turn (tablesOf held log escrow (now (heaps .entry)) (now (shared .entry)) (now («log_values» .entry)) (now («escrow_values» .entry)))
         (now (rest .entry)))
         (now (out .entry)) (now (out .exit)) (r .size)
         ⌝ }
-    ensures { λ r. ⌜ EditsBy b (r .held) (r .edits) ⌝ }
+    ensures { λ r. ⌜ EditsBy held (r .held) (r .edits) ⌝ }
 {
     let mut output = [0u8; 1024];
     let change = calls::call_sound(
-        b,
+        held,
         log,
         escrow,
         heaps,
@@ -100,7 +100,7 @@ pub fn next_line(
 // Lines at the front of out, a line a record, until no input is left, after a line that is the last, or where the next
 // line might not fit.
 pub fn next_lines(
-    mut b: BoxRecord,
+    mut held: BoxRecord,
     mut log: LogTable,
     mut escrow: EscrowTable,
     heaps: &mut [u8],
@@ -111,14 +111,14 @@ pub fn next_lines(
     out: &mut [u8],
 ) -> Lines
     requires { ⌜
-        Sound (tablesOf b log escrow (now heaps) (now shared) (now «log_values») (now «escrow_values»)) 1024
+        Sound (tablesOf held log escrow (now heaps) (now shared) (now «log_values») (now «escrow_values»)) 1024
         × (2113 ≤ length (now out))
         ⌝ }
     ensures { λ r. ⌜
         TurnMade
         (turnsOf r (now (heaps .exit)) (now (shared .exit)) (now («log_values» .exit)) (now («escrow_values» .exit)) (now (out .exit)))
         (turns (length (now (out .entry)))
-        (tablesOf b log escrow (now (heaps .entry)) (now (shared .entry)) (now («log_values» .entry)) (now («escrow_values» .entry)))
+        (tablesOf held log escrow (now (heaps .entry)) (now (shared .entry)) (now («log_values» .entry)) (now («escrow_values» .entry)))
         (now (rest .entry)))
         (now (out .entry)) (now (out .exit)) (r .size)
         ⌝ }
@@ -131,7 +131,7 @@ pub fn next_lines(
             break;
         }
         let next = next_line(
-            b,
+            held,
             log,
             escrow,
             heaps,
@@ -144,7 +144,7 @@ pub fn next_lines(
         let edits = next.edits;
         log = log_edited(log, edits.log);
         escrow = escrow_edited(escrow, edits.escrow);
-        b = next.held;
+        held = next.held;
         used += next.used;
         size += next.size;
         last = next.last;
@@ -153,7 +153,7 @@ pub fn next_lines(
         }
     }
     Lines {
-        held: b,
+        held,
         log,
         escrow,
         used,

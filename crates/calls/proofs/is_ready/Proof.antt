@@ -9,10 +9,10 @@ use Rattle.calls.proofs.is_ready.Statement.{statement}
 use Rattle.calls.proofs.is_ready.Tie as tie
 
 -- the arrays have their lengths by type
-counted : (c : tie.Start) → Counted (c .args .b) (c .args .log) (c .args .escrow)
+counted : (c : tie.Start) → Counted (c .args .held) (c .args .log) (c .args .escrow)
 counted c =
     record {
-      identities = sym (length-map (c .args .b .identities) (λ v. v)) ∙ c .good .0 .1 .1 .1 .1 .0 .1 .0 .1;
+      identities = sym (length-map (c .args .held .identities) (λ v. v)) ∙ c .good .0 .1 .1 .1 .1 .0 .1 .0 .1;
       logRows = sym (length-map (c .args .log .rows) _) ∙ c .good .1 .0 .1 .1 .0 .1 .0 .1;
       escrowRows = sym (length-map (c .args .escrow .rows) _) ∙ c .good .1 .1 .0 .1 .1 .0 .1 .0 .1;
     }

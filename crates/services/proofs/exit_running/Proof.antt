@@ -62,7 +62,7 @@ bit-of-requires c κs = search needs
 
 sub-left : tie.Need-sub-left
 sub-left c =
-    let b = c .before .before .before .before .before .before .before .before .args .b in
+    let b = c .before .before .before .before .before .before .before .before .args .held in
     let n : length (b .identities) ≡ 16 = search needs in
     let r : b .running < 16 = omega (arith, c .before .before .before .before .before .before .if1 .left, c .before .before .before .before .before .before .before .before .pre .runs) in
     let m = map-left (b .identities) (b .running) (omega arith) (c .before .before .before .before .before .before .before .before .pre .live r) in
@@ -86,7 +86,7 @@ same-length c = search needs
 returns-2 : tie.Need-returns-2
 unfolding exitOn exitHeaps firstHolding settled answered
 returns-2 c =
-    let b = c .before .before .before .before .before .before .before .before .before .before .args .b in
+    let b = c .before .before .before .before .before .before .before .before .before .before .args .held in
     let p = c .before .before .before .before .before .before .before .before .before .before .pre in
     let n : length (b .identities) ≡ 16 = sym (length-map (b .identities) (λ v. v)) ∙ c .before .before .before .before .before .before .before .before .before .before .good .0 .1 .1 .1 .1 .0 .1 .0 .1 in
     let r : b .running < 16 = omega (arith, c .before .before .before .before .before .before .before .before .if1 .left, p .runs) in

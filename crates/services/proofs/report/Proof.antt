@@ -10,7 +10,7 @@ use Rattle.services.proofs.report.Tie as tie
 
 cast-accepted : tie.Need-cast-accepted
 cast-accepted c =
-    let k = Count.ones-le 16 (c .before .before .before .args .b .taken) (c .struct-known .given .0 .fits) in
+    let k = Count.ones-le 16 (c .before .before .before .args .held .taken) (c .struct-known .given .0 .fits) in
     record { fits = omega arith }
 
 cast-accepted-2 : tie.Need-cast-accepted-2
@@ -21,7 +21,7 @@ mul-accepted c = search needs
 
 add-accepted : tie.Need-add-accepted
 add-accepted c =
-    let k = Count.ones-le 16 (c .before .before .before .before .args .b .taken) (c .before .struct-known .given .0 .fits) in
+    let k = Count.ones-le 16 (c .before .before .before .before .args .held .taken) (c .before .struct-known .given .0 .fits) in
     record { fits = omega arith }
 
 cast-accepted-3 : tie.Need-cast-accepted-3
@@ -32,7 +32,7 @@ mul-accepted-2 c = search needs
 
 add-accepted-2 : tie.Need-add-accepted-2
 add-accepted-2 c =
-    let k = Count.ones-le 16 (c .before .before .before .before .before .args .b .taken) (c .before .before .struct-known .given .0 .fits) in
+    let k = Count.ones-le 16 (c .before .before .before .before .before .args .held .taken) (c .before .before .struct-known .given .0 .fits) in
     record { fits = omega arith }
 
 accepted-requires : tie.Need-accepted-requires
@@ -41,7 +41,7 @@ accepted-requires c κs = search needs
 returns : tie.Need-returns
 unfolding reportOn firstHolding answered
 returns c =
-    let k = ones-counted 16 (c .before .before .before .before .before .before .args .b .taken) (c .before .before .before .struct-known .given .0 .fits) in
+    let k = ones-counted 16 (c .before .before .before .before .before .before .args .held .taken) (c .before .before .before .struct-known .given .0 .fits) in
     rw (c .accepted .ensures, k)
 
 pub report-spec : {M : Type 1} → statement M

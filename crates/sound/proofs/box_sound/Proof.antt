@@ -14,15 +14,15 @@ use Rattle.sound.proofs.box_sound.Tie as tie
 
 -- the arrays have their lengths by type, so that the parts are the whole
 whole : (c : tie.Start) (shared : List ℕ)
-    → placesSound (c .args .b) (c .args .heaps .now)
-    && (logSound (c .args .log .rows) (c .args .log-values .now) (c .args .b .log)
-    && escrowSound (c .args .escrow .rows) (c .args .escrow-values .now) (c .args .b .escrow))
-    ≡ sound (tablesOf (c .args .b) (c .args .log) (c .args .escrow) (c .args .heaps .now) shared (c .args .log-values .now) (c .args .escrow-values .now))
+    → placesSound (c .args .held) (c .args .heaps .now)
+    && (logSound (c .args .log .rows) (c .args .log-values .now) (c .args .held .log)
+    && escrowSound (c .args .escrow .rows) (c .args .escrow-values .now) (c .args .held .escrow))
+    ≡ sound (tablesOf (c .args .held) (c .args .log) (c .args .escrow) (c .args .heaps .now) shared (c .args .log-values .now) (c .args .escrow-values .now))
 whole c shared =
     let a = c .args in
-    sound-parts (a .b) (a .log) (a .escrow) (a .heaps .now) (a .log-values .now) (a .escrow-values .now)
+    sound-parts (a .held) (a .log) (a .escrow) (a .heaps .now) (a .log-values .now) (a .escrow-values .now)
     (record {
-      identities = sym (length-map (a .b .identities) (λ v. v)) ∙ c .good .0 .1 .1 .1 .1 .0 .1 .0 .1;
+      identities = sym (length-map (a .held .identities) (λ v. v)) ∙ c .good .0 .1 .1 .1 .1 .0 .1 .0 .1;
       logRows = sym (length-map (a .log .rows) _) ∙ c .good .1 .0 .1 .1 .0 .1 .0 .1;
       escrowRows = sym (length-map (a .escrow .rows) _) ∙ c .good .1 .1 .0 .1 .1 .0 .1 .0 .1;
     })

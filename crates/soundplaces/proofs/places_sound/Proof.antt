@@ -25,7 +25,7 @@ taken-map-requires c κs = search needs
 returns : tie.Need-returns
 unfolding placesSound pass
 returns c =
-    let b = c .before .before .before .before .before .args .b in
+    let b = c .before .before .before .before .before .args .held in
     rw (ne-eqb _ _ (λ e. c .if1 .taken (e ∙ sym (c .before .before .taken-map .ensures)))) (sym (and-false (runningTaken b) _ refl))
 
 running-taken-requires : tie.Need-running-taken-requires
@@ -34,7 +34,7 @@ running-taken-requires c κs = search needs
 returns-2 : tie.Need-returns-2
 unfolding placesSound pass
 returns-2 c =
-    let b = c .before .before .before .before .before .before .before .args .b in
+    let b = c .before .before .before .before .before .before .before .args .held in
     let map = c .before .before .if1 .left ∙ c .before .before .before .before .taken-map .ensures in
     rw (sym (by-map b map) ∙ sym (c .before .running-taken .ensures) ∙ not-true _ (c .if2 .taken))
 
@@ -44,7 +44,7 @@ heaps-sound-requires c κs = search needs
 returns-3 : tie.Need-returns-3
 unfolding placesSound pass
 returns-3 c =
-    let b = c .before .before .before .before .before .before .before .before .args .b in
+    let b = c .before .before .before .before .before .before .before .before .args .held in
     let map = c .before .before .before .if1 .left ∙ c .before .before .before .before .before .taken-map .ensures in
     rw (
       sym (by-map b map) ∙ sym (c .before .before .running-taken .ensures) ∙ not-false _ (c .before .if2 .left),
