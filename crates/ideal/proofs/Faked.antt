@@ -3,7 +3,7 @@
 use Prim.Native.Nat.{ℕ, zero, suc, _<_}
 use mathlib.Core.Path.{_≡_, refl, sym, ap, _∙_}
 use mathlib.Core.Bool.{cond}
-use mathlib.Core.List.{List, [], _∷_, _++_, map}
+use mathlib.Core.List.{List, [], _∷_, _++_, map, reverse}
 use native.Mathlib.Omega.{arith}
 use lib.ListN.{length, take}
 use lib.Dec.{eqb, ltb}
@@ -13,15 +13,17 @@ use Rattle.record.specs.Call.{Call, create, start, attest, protect, retrieve, r
 use Rattle.record.specs.Layout.{stands, kinds, among, kindOf}
 use Rattle.record.specs.Read.{read, fromLittle, field, contents, bytesField, fields, readFields, readKind, afterMap}
 use Rattle.record.specs.Write.{write, only, recordOf, filled, recordIn}
-use Rattle.ideal.specs.State.{fresh, cleared, ownPart, any, find, sameBytes, bytesUsed}
-use Rattle.ideal.specs.Step.{isPair, paired, full, withPair, isEscrowed, found, absent, valueIn, hasHandle, handleOf, next, freeFrom, freeHandle, first, idle, vacant, beyond, tests, refusal, protected, move, apply, effect, services, number, shown, Answer, accepted, settle, step, onReading, stepOn}
-use Rattle.ideal.specs.Tables.{Tables, takenMap, boxRecord, tables}
+use Rattle.ideal.specs.State.{Logged, State, fresh, cleared, ownPart, any, find, sameBytes, bytesUsed}
+use Rattle.ideal.specs.Step.{isPair, paired, full, withPair, isEscrowed, found, absent, valueIn, hasHandle, handleOf, next, freeFrom, freeHandle, first, idle, vacant, beyond, tests, refusal, protected, move, apply, effect, services, number, shown, Answer, accepted, settle, step, onReading, stepOn, withCommon}
+use Rattle.ideal.specs.Tables.{Tables, takenMap, boxRecord, tables, stateOf}
 use Rattle.ideal.specs.Box.{Element, Result, callOn, elementAt, tablesBefore, answerAt}
+use Rattle.ideal.specs.Valid.{Valid}
 use Rattle.ideal.specs.Witness.{element}
 use Rattle.ideal.specs.Demands.{Demand2}
-use Rattle.ideal.specs.Fakes.{kindIn, usedIn, reply, instead, refusesEach, fixedReply, touchesNothing, servesTheFirst, inventsTotals, saysNotThere, recoversNothingLater, ShutOut}
-use Rattle.ideal.proofs.Laid.{stepElement}
-use Rattle.ideal.proofs.Runs.{stateFrom, stateBefore, tables-before, answer-at}
+use Rattle.ideal.specs.Fakes.{kindIn, usedIn, reply, instead, refusesEach, fixedReply, touchesNothing, servesTheFirst, inventsTotals, saysNotThere, recoversNothingLater, turned, turnsLogRound, ShutOut}
+use Rattle.ideal.proofs.Table.{log-lawful, entries-back}
+use Rattle.ideal.proofs.Laid.{stepElement, state-tables}
+use Rattle.ideal.proofs.Runs.{stateFrom, stateBefore, valid-before, tables-before, answer-at}
 use Rattle.ideal.proofs.FixedRuns.{fixed-by-two, tables-next}
 
 -- ---- a box that meets demand 2, at a call of a run
@@ -58,7 +60,7 @@ module _ (box : Tables → Element → Result) (two : Demand2 box) (es : List El
 unfoldable short : List Element
 short =
     map element
-    (create 0 1 ∷ start 0 ∷ attest 0 0 ∷ protect 1 0 0 (record { 0 = 0 }) ∷ retrieve 1 0 (record { 0 = 0 }) ∷ report ∷ [])
+    (create 0 1 ∷ start 0 ∷ attest 0 0 ∷ protect 1 0 0 (record { 0 = 0 }) ∷ retrieve 1 0 (record { 0 = 0 }) ∷ attest 0 1 ∷ report ∷ [])
 
 -- 41 values escrowed, and one of them retrieved
 unfoldable protects : ℕ → List Call
@@ -68,8 +70,13 @@ protects (suc n) = protect 1 0 0 (record { 0 = n }) ∷ protects n
 unfoldable long : List Element
 long = map element (create 0 1 ∷ start 0 ∷ (protects 41 ++ (retrieve 1 0 (record { 0 = 7 }) ∷ [])))
 
+-- the length of the first value
+unfoldable firstLength : List Logged → ℕ
+firstLength [] = 0
+firstLength (e ∷ l) = length (e .value)
+
 record Computed : Type 0 where
-  short-size : length short ≡ 6
+  short-size : length short ≡ 7
   long-size : length long ≡ 44
   create-used : answer short 0 .used ≡ 11
   create-code : answer short 0 .code ≡ 0
@@ -80,19 +87,23 @@ record Computed : Type 0 where
   attest-code : answer short 2 .code ≡ 0
   protect-code : answer short 3 .code ≡ 0
   retrieve-code : answer short 4 .code ≡ 0
-  report-code : answer short 5 .code ≡ 0
-  report-number : answer short 5 .number ≡ 65793
+  report-code : answer short 6 .code ≡ 0
+  report-number : answer short 6 .number ≡ 66049
+  -- the first of the two that are logged is the shorter
+  first-row : firstLength (stateBefore short 6 .log) ≡ 0
+  first-turned : firstLength (reverse (stateBefore short 6 .log)) ≡ 1
+  kept : stateBefore short 7 .log ≡ stateBefore short 6 .log
   long-code : answer long 43 .code ≡ 0
   -- the kinds that are replied to
   attest-kind : kindIn (read (elementAt short 2 .bytes)) ≡ 9
   protect-kind : kindIn (read (elementAt short 3 .bytes)) ≡ 11
   retrieve-kind : kindIn (read (elementAt short 4 .bytes)) ≡ 12
-  report-kind : kindIn (read (elementAt short 5 .bytes)) ≡ 13
+  report-kind : kindIn (read (elementAt short 6 .bytes)) ≡ 13
   long-kind : kindIn (read (elementAt long 43 .bytes)) ≡ 12
   long-rows : length (stateBefore long 43 .escrow) ≡ 41
 
 computed : Computed
-unfolding short long protects kindIn element elementAt answer stepElement stateBefore stateFrom mixed fnvFrom fnv1a little tagOf stands kinds among kindOf fromLittle field contents bytesField fields readFields readKind afterMap read write only recordOf filled recordIn fresh cleared ownPart any find sameBytes bytesUsed isPair paired full withPair isEscrowed found absent valueIn hasHandle handleOf next freeFrom freeHandle first idle vacant beyond tests refusal protected move apply effect services number shown accepted settle step onReading stepOn takenMap
+unfolding short long protects firstLength kindIn element elementAt answer stepElement stateBefore stateFrom mixed fnvFrom fnv1a little tagOf stands kinds among kindOf fromLittle field contents bytesField fields readFields readKind afterMap read write only recordOf filled recordIn fresh cleared ownPart any find sameBytes bytesUsed isPair paired full withPair isEscrowed found absent valueIn hasHandle handleOf next freeFrom freeHandle first idle vacant beyond tests refusal protected move apply effect services number shown accepted settle step onReading stepOn takenMap
 computed =
     record {
       short-size = refl;
@@ -108,6 +119,9 @@ computed =
       retrieve-code = refl;
       report-code = refl;
       report-number = refl;
+      first-row = refl;
+      first-turned = refl;
+      kept = refl;
       long-code = refl;
       attest-kind = refl;
       protect-kind = refl;
@@ -148,9 +162,9 @@ module _ (c : Computed) where
   invents-totals : Demand2 inventsTotals → ⊥
   unfolding reply
   invents-totals two =
-      let r = replied 13 0 7 (tables (stateBefore short 5)) (elementAt short 5) (c .report-kind) in
-      let a = answer-of inventsTotals two short 5 (omega (arith, c .short-size)) (c .report-code) in
-      let z : _≡_ {A = ℕ} 7 65793 = sym (ap (λ x. x .answer .number) r) ∙ ap (λ x. x .number) a ∙ c .report-number in
+      let r = replied 13 0 7 (tables (stateBefore short 6)) (elementAt short 6) (c .report-kind) in
+      let a = answer-of inventsTotals two short 6 (omega (arith, c .short-size)) (c .report-code) in
+      let z : _≡_ {A = ℕ} 7 66049 = sym (ap (λ x. x .answer .number) r) ∙ ap (λ x. x .number) a ∙ c .report-number in
       omega arith
 
   recovers-nothing-later : Demand2 recoversNothingLater → ⊥
@@ -162,6 +176,25 @@ module _ (c : Computed) where
       let r = later ∙ replied 12 10 0 t e (c .long-kind) in
       let z : _≡_ {A = ℕ} 10 0 =
       sym (ap (λ x. x .answer .code) r) ∙ code-at recoversNothingLater two long 43 (omega (arith, c .long-size)) ∙ c .long-code in
+      omega arith
+
+  turned-log : (s : State) → Valid s → stateOf (turned (tables s)) .log ≡ reverse (s .log)
+  unfolding turned
+  turned-log s v =
+      ap (λ x. stateOf (tables (withCommon x (x .shared) (reverse (x .log)) (x .escrow))) .log) (state-tables s v)
+      ∙ (unfold stateOf tables boxRecord in entries-back log-lawful (reverse (s .log)))
+
+  turns-log-round : Demand2 turnsLogRound → ⊥
+  turns-log-round two =
+      let s = stateBefore short 6 in
+      let e = elementAt short 6 in
+      let t = tables s in
+      let r : turnsLogRound t e ≡ record { tables = turned t; answer = callOn t e .answer } = rw (eq-eqb _ 13 (c .report-kind)) in
+      let a : turned t ≡ tables (stateBefore short 7) =
+      sym (ap (λ x. x .tables) r) ∙ tables-of turnsLogRound two short 6 (omega (arith, c .short-size)) in
+      let z : _≡_ {A = ℕ} 1 0 =
+      sym (ap firstLength (turned-log s (valid-before short 6)) ∙ c .first-turned) ∙ ap (λ x. firstLength (stateOf x .log)) a
+      ∙ ap (λ x. firstLength (x .log)) (state-tables (stateBefore short 7) (valid-before short 7)) ∙ ap firstLength (c .kept) ∙ c .first-row in
       omega arith
 
 pub shut-out : ShutOut
@@ -187,4 +220,5 @@ shut-out =
       says-log-full = λ two. refuses 9 12 short 2 (omega arith) two (c .attest-kind) (c .attest-code);
       says-escrow-full = λ two. refuses 11 13 short 3 (omega arith) two (c .protect-kind) (c .protect-code);
       recovers-nothing-later = recovers-nothing-later c;
+      turns-log-round = turns-log-round c;
     }

@@ -2,12 +2,13 @@
 -- definition in which a heap byte steers the handle.
 use Prim.Native.Nat.{ℕ, _+_, _*_, _%_}
 use mathlib.Core.Bool.{cond}
-use mathlib.Core.List.{[]}
+use mathlib.Core.List.{[], reverse}
 use lib.ListN.{getD, set}
 use lib.Dec.{eqb, ltb}
 use Rattle.record.specs.Read.{Reading, refused, whole, read}
 use Rattle.record.specs.Write.{filled}
-use Rattle.ideal.specs.Tables.{Tables}
+use Rattle.ideal.specs.Step.{withCommon}
+use Rattle.ideal.specs.Tables.{Tables, tables, stateOf}
 use Rattle.ideal.specs.Box.{Element, Result, callOn}
 use Rattle.ideal.specs.Secrecy.{Secrecy}
 use Rattle.ideal.specs.Demands.{Demand2}
@@ -63,6 +64,16 @@ saysEscrowFull = instead 11 14 0
 abbrev pub recoversNothingLater : Tables → Element → Result
 recoversNothingLater t e = cond (ltb 40 (t .box .escrow .rows)) (saysNotThere t e) (callOn t e)
 
+-- the definition, but a report turns the log round: the counts are right, and the box is sound
+unfoldable pub turned : Tables → Tables
+turned t =
+    let s = stateOf t in
+    tables (withCommon s (s .shared) (reverse (s .log)) (s .escrow))
+
+abbrev pub turnsLogRound : Tables → Element → Result
+turnsLogRound t e =
+    cond (eqb (kindIn (read (e .bytes))) 13) (record { tables = turned t; answer = callOn t e .answer }) (callOn t e)
+
 pub record ShutOut : Type 0 where
   pub refuses-each : Demand2 refusesEach → ⊥
   pub fixed-reply : Demand2 fixedReply → ⊥
@@ -73,6 +84,8 @@ pub record ShutOut : Type 0 where
   pub says-log-full : Demand2 saysLogFull → ⊥
   pub says-escrow-full : Demand2 saysEscrowFull → ⊥
   pub recovers-nothing-later : Demand2 recoversNothingLater → ⊥
+  -- this one document 01 does not name
+  pub turns-log-round : Demand2 turnsLogRound → ⊥
 
 -- ---- a heap byte steers the handle
 
