@@ -44,5 +44,7 @@ pub mod OneCalls
 pub mod FixedCalls
 pub mod FixedRuns
 pub mod FixedSecret
+pub mod Faked
+pub mod Steered
 pub mod Differing
 pub mod Examined

@@ -14,6 +14,7 @@ pub mod Secrecy
 pub mod OneCall
 pub mod Demands
 pub mod Fixed
+pub mod Fakes
 pub mod Witness
 pub mod Exam
 pub mod Fit
