@@ -16,7 +16,7 @@ use Rattle.ideal.specs.Step.{found, valueIn, pairOf, idle, vacant, beyon
 use Rattle.ideal.specs.Tables.{tables, boxRecord}
 use Rattle.ideal.specs.Refusals.{ownBytes, oneOf}
 use Rattle.ideal.specs.Answers.{plainNumber, Answered}
-use Rattle.ideal.specs.History.{eventOf}
+use Rattle.ideal.specs.History.{moveSeen}
 use Rattle.ideal.specs.Valid.{Valid}
 use Rattle.lists.proofs.Bools.{by-cases, clash}
 use Rattle.ideal.proofs.Chain.{failed, passed}
@@ -73,8 +73,8 @@ retrieved s i o a k r =
     own-bytes (effect s (retrieve i o a)) (valid-effect s (retrieve i o a) k r) g o (length v) f ∙ written-stands s k g o v f
 
 pub event-is : (s : State) (c : Call) → Valid s → refusal s c ≡ 0
-    → eventOf (tables s) (tables (effect s c)) (number s c) c ≡ move s c
-unfolding eventOf move number protected tables boxRecord
+    → moveSeen (tables s) (tables (effect s c)) (number s c) c ≡ move s c
+unfolding moveSeen move number protected tables boxRecord
 event-is s (create p i) k r = refl
 event-is s (start p) k r = refl
 event-is s yield k r = refl

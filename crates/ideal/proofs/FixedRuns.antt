@@ -23,7 +23,7 @@ use Rattle.ideal.specs.Tables.{Tables, freshTables}
 use Rattle.ideal.specs.Box.{Element, Result, callOn, elementAt, tablesFrom, answersFrom, tablesAfter, tablesBefore, answerAt}
 use Rattle.ideal.specs.Refusals.{callerIn, ownBytes, oneOf}
 use Rattle.ideal.specs.Answers.{plainNumber, Answered}
-use Rattle.ideal.specs.History.{eventOf, added, pastFrom, pastOf, Shows}
+use Rattle.ideal.specs.History.{moveSeen, added, pastFrom, pastOf, Shows}
 use Rattle.ideal.specs.Accuracy.{Earlier, LogsAt, ProtectsAt, ProtectedBefore, HandsOut}
 use Rattle.ideal.specs.Demands.{Demand1, Demand2}
 use Rattle.ideal.specs.Fixed.{FixedByTwo, Fixed}
@@ -80,8 +80,8 @@ module _ (box : Box) where
 
 -- only a retrieve's event is told by what the call left
 same-event : (c : Call) (t w x : Tables) (n : ℕ)
-    → ((i o : ℕ) (h : Handle) → c ≡ retrieve i o h → ownBytes w o n ≡ ownBytes x o n) → eventOf t w n c ≡ eventOf t x n c
-unfolding eventOf
+    → ((i o : ℕ) (h : Handle) → c ≡ retrieve i o h → ownBytes w o n ≡ ownBytes x o n) → moveSeen t w n c ≡ moveSeen t x n c
+unfolding moveSeen
 same-event (create p i) t w x n f = refl
 same-event (start p) t w x n f = refl
 same-event yield t w x n f = refl
@@ -104,7 +104,7 @@ refused-adds t r (refused code number) past h = refl
 refused-adds t r (whole c used) past h = rw (ne-eqb (r .answer .code) 0 h)
 
 accepted-adds : (t : Tables) (r : Result) (c : Call) (used : ℕ) (past : List Move) → r .answer .code ≡ 0
-    → added t r (whole c used) past ≡ eventOf t (r .tables) (r .answer .number) c ∷ past
+    → added t r (whole c used) past ≡ moveSeen t (r .tables) (r .answer .number) c ∷ past
 unfolding added
 accepted-adds t r c used past h = rw (eq-eqb (r .answer .code) 0 h)
 
@@ -358,8 +358,8 @@ module _ (box : Box) (two : Demand2 box) where
         λ i o a y.
         let g = both i o a used (q ∙ ap (λ d. whole d used) y) z in
         rw (g .s .accepts .1, ← tables-next box es k b, ← tables-next callOn es k b) (g .r .stands ∙ sym (g .s .stands)) in
-        let event : eventOf (tablesBefore box es k) w (answerAt box es k .number) c ≡ eventOf t x (answerAt callOn es k .number) c =
-        ap (λ y. eventOf y w (answerAt box es k .number) c) before ∙ ap (λ m. eventOf t w m c) n ∙ same-event c t w x _ left in
+        let event : moveSeen (tablesBefore box es k) w (answerAt box es k .number) c ≡ moveSeen t x (answerAt callOn es k .number) c =
+        ap (λ y. moveSeen y w (answerAt box es k .number) c) before ∙ ap (λ m. moveSeen t w m c) n ∙ same-event c t w x _ left in
         let past : added (tablesBefore box es k) (box (tablesBefore box es k) e) (read (e .bytes)) (pastOf box (take k es))
         ≡ added t (callOn t e) (read (e .bytes)) (pastOf callOn (take k es)) =
         rw (

@@ -19,27 +19,27 @@ use Rattle.ideal.specs.Refusals.{callerIn, ownBytes}
 
 -- the move of an accepted call, from the tables before and after it and its number; a retrieve writes what then stands in
 -- the heap
-unfoldable pub eventOf : Tables → Tables → ℕ → Call → Move
-eventOf t u n (create p i) = takes p i
-eventOf t u n (start p) = activates p
-eventOf t u n yield = activates 16
-eventOf t u n exit = empties (t .box .running)
-eventOf t u n (heapWrite p o v) = writes p o v
-eventOf t u n (heapRead p o m) = nothing
-eventOf t u n (sharedWrite o v) = shares o v
-eventOf t u n (sharedRead o m) = nothing
-eventOf t u n (attest o m) =
+unfoldable pub moveSeen : Tables → Tables → ℕ → Call → Move
+moveSeen t u n (create p i) = takes p i
+moveSeen t u n (start p) = activates p
+moveSeen t u n yield = activates 16
+moveSeen t u n exit = empties (t .box .running)
+moveSeen t u n (heapWrite p o v) = writes p o v
+moveSeen t u n (heapRead p o m) = nothing
+moveSeen t u n (sharedWrite o v) = shares o v
+moveSeen t u n (sharedRead o m) = nothing
+moveSeen t u n (attest o m) =
     logs (record { key = record { identity = callerIn t; tag = record { 0 = n } }; value = ownBytes t o m })
-eventOf t u n (check i g v) = nothing
-eventOf t u n (protect i o m d) =
+moveSeen t u n (check i g v) = nothing
+moveSeen t u n (protect i o m d) =
     escrows (record { key = record { source = callerIn t; recipient = i; handle = record { 0 = n } }; value = ownBytes t o m })
-eventOf t u n (retrieve i o h) = writes (t .box .running) o (ownBytes u o n)
-eventOf t u n report = nothing
+moveSeen t u n (retrieve i o h) = writes (t .box .running) o (ownBytes u o n)
+moveSeen t u n report = nothing
 
 unfoldable pub added : Tables → Result → Reading → List Move → List Move
 added t r (refused code number) past = past
 added t r (whole c used) past =
-    cond (eqb (r .answer .code) 0) (eventOf t (r .tables) (r .answer .number) c ∷ past) past
+    cond (eqb (r .answer .code) 0) (moveSeen t (r .tables) (r .answer .number) c ∷ past) past
 
 module _ (box : Tables → Element → Result) where
   unfoldable pub pastFrom : Tables → List Move → List Element → List Move
