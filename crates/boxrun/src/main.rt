@@ -1,58 +1,50 @@
 // Runs a script of records from standard input on a fresh box, and prints its answer sheet.
+mod output;
+
 ghost use mathlib.Core.Path.{_≡_};
 ghost use Prim.Native.Nat.{_≤_};
-ghost use lib.ListN.{length, take};
+ghost use lib.ListN.{length};
 ghost use Rattle.sheet.specs.Sheet.{header, sheet};
-ghost use Rattle.boxrun.specs.Outcomes.{Within, Whole};
+ghost use Rattle.boxrun.specs.Printing.{ReadWithin, PrintedWhole};
 use libc::STDERR_FILENO;
 use libc::STDIN_FILENO;
-use libc::STDOUT_FILENO;
+use output::Printed;
+use output::Progress;
 
-// How many bytes were read or written, or that this failed.
-enum Outcome {
+// How many bytes of a script were read, or that standard input cannot be read.
+enum Input {
     Bytes(usize),
-    Failed,
+    Unreadable,
 }
 
 // Reads until the buffer is full or the input ends.
-fn read_script(script: &mut [u8]) -> Outcome
-    ensures { λ r. ⌜ Within r (length (now (script .exit))) ⌝ }
+fn read_script(script: &mut [u8]) -> Input
+    ensures { λ r. ⌜ ReadWithin r (length (now (script .exit))) ⌝ }
 {
     let mut n: usize = 0;
     while n < script.len() {
         let part = &mut script[n..];
         let got = libc::read(STDIN_FILENO, part);
         if got < 0 {
-            return Outcome::Failed;
+            return Input::Unreadable;
         }
         let more = io::count(got, part);
         if more == 0 {
-            return Outcome::Bytes(n);
+            return Input::Bytes(n);
         }
         n += more;
     }
-    Outcome::Bytes(n)
-}
-
-// All bytes, on standard output.
-fn print(bytes: &[u8]) -> Outcome
-    ensures { λ r. ⌜ Whole r (now (bytes .entry)) ⌝ }
-{
-    if io::write_all(STDOUT_FILENO, bytes) {
-        Outcome::Bytes(bytes.len())
-    } else {
-        Outcome::Failed
-    }
+    Input::Bytes(n)
 }
 
 // The lines after the header, 65,536 bytes of them or fewer at a time, until no input is left, after a line that is the last,
 // or where writing fails.
-// `printed` counts the header.
-fn run(script: &[u8], printed: usize) -> Outcome
-    requires { ⌜ (length (now script) ≤ 65536) × (printed ≡ length header) ⌝ }
-    ensures { λ r. ⌜ Whole r (sheet (now (script .entry))) ⌝ }
+// `head` counts the header.
+fn run(script: &[u8], head: Progress) -> Printed
+    requires { ⌜ (length (now script) ≤ 65536) × (head .printed ≡ length header) ⌝ }
+    ensures { λ r. ⌜ PrintedWhole r (sheet (now (script .entry))) ⌝ }
 {
-    let mut b = state::fresh_record();
+    let mut held = state::fresh_record();
     let mut log = state::fresh_log();
     let mut escrow = state::fresh_escrow();
     let mut heaps = [0u8; 4096];
@@ -60,11 +52,11 @@ fn run(script: &[u8], printed: usize) -> Outcome
     let mut log_values = [0u8; 4096];
     let mut escrow_values = [0u8; 4096];
     let mut text = [0u8; 65536];
-    let mut total = printed;
+    let mut so_far = head;
     let mut at: usize = 0;
     while at < script.len() {
         let lines = turns::next_lines(
-            b,
+            held,
             log,
             escrow,
             &mut heaps,
@@ -74,49 +66,47 @@ fn run(script: &[u8], printed: usize) -> Outcome
             &script[at..],
             &mut text,
         );
-        b = lines.held;
+        held = lines.held;
         log = lines.log;
         escrow = lines.escrow;
         let size = lines.size;
-        let Outcome::Bytes(n) = print(&text[..size]) else {
-            return Outcome::Failed;
+        let part = output::print(script, so_far, &text[..size]);
+        let Printed::UpTo(more) = part else {
+            return part;
         };
-        total += n;
+        so_far = more;
         if lines.last {
-            return Outcome::Bytes(total);
+            return part;
         }
         at += lines.used;
     }
-    Outcome::Bytes(total)
+    Printed::UpTo(so_far)
 }
 
-// The sheet of the script in the first n bytes.
-fn print_sheet(script: &[u8], n: usize) -> Outcome
-    requires { ⌜ n ≤ length (now script) ⌝ }
-    ensures { λ r. ⌜ Whole r (sheet (take n (now (script .entry)))) ⌝ }
+// The sheet of the script: the header, and its lines or the line for too long a script.
+fn print_sheet(script: &[u8]) -> Printed
+    ensures { λ r. ⌜ PrintedWhole r (sheet (now (script .entry))) ⌝ }
 {
-    let Outcome::Bytes(head) = print(&sheet::header()) else {
-        return Outcome::Failed;
+    let part = output::print(script, output::nothing(), &sheet::header());
+    let Printed::UpTo(head) = part else {
+        return part;
     };
-    if n <= 65536 {
-        return run(&script[..n], head);
+    if script.len() <= 65536 {
+        return run(script, head);
     }
-    let Outcome::Bytes(line) = print(&sheet::too_long()) else {
-        return Outcome::Failed;
-    };
-    Outcome::Bytes(head + line)
+    output::print(script, head, &sheet::too_long())
 }
 
 fn main() {
     let mut script = [0u8; 65537];
-    let Outcome::Bytes(n) = read_script(&mut script) else {
+    let Input::Bytes(n) = read_script(&mut script) else {
         io::write_all(
             STDERR_FILENO,
             b"boxrun: standard input cannot be read; no sheet is printed\n",
         );
         return;
     };
-    if let Outcome::Failed = print_sheet(&script, n) {
+    if let Printed::Failed(_) = print_sheet(&script[..n]) {
         io::write_all(
             STDERR_FILENO,
             b"boxrun: standard output cannot be written; the sheet is not whole\n",

@@ -1,4 +1,6 @@
 use borrow.Author.Needs.{needs}
+use mathlib.Core.Path.{sym}
+use lib.Seq.{length-take-le}
 use Rattle.boxrun.proofs.main.Statement.{statement}
 use Rattle.boxrun.proofs.main.Tie as tie
 
@@ -23,11 +25,15 @@ write-all-requires c κs = search needs
 returns : tie.Need-returns
 returns c = search needs
 
+array-share-prefix-script : tie.Need-array-share-prefix-script
+array-share-prefix-script c = rw (c .before .n .given .1) at (c .before .before .before .before .read-script .ensures)
+
 slice-aggregate-print-sheet : tie.Need-slice-aggregate-print-sheet
-slice-aggregate-print-sheet c = search needs
+slice-aggregate-print-sheet c =
+    sym (length-take-le _ _ (rw (c .before .before .n .given .1) at (c .before .before .before .before .before .read-script .ensures)))
 
 print-sheet-requires : tie.Need-print-sheet-requires
-print-sheet-requires c κs = rw (c .before .before .n .given .1) at (c .before .before .before .before .before .read-script .ensures)
+print-sheet-requires c κs = search needs
 
 enum-told-2 : tie.Need-enum-told-2
 enum-told-2 c = search needs
@@ -58,6 +64,7 @@ main-spec =
     slice-aggregate-write-all
     write-all-requires
     returns
+    array-share-prefix-script
     slice-aggregate-print-sheet
     print-sheet-requires
     enum-told-2

@@ -1,12 +1,14 @@
 use native.Mathlib.Omega.{arith}
-use mathlib.Core.Path.{ap, sym, _∙_}
-use lib.ListN.{length, take}
-use lib.Seq.{length-take-le}
+use mathlib.Core.Path.{_≡_, ap}
+use lib.ListN.{length}
 use Rattle.sheet.specs.Sheet.{bytesOf, header, tooLong}
-use Rattle.boxrun.proofs.Going.{too-long}
+use Rattle.boxrun.proofs.Going.{failed-part, last-part, head-part, too-long-part, too-long-last}
 use borrow.Author.Needs.{needs}
 use Rattle.boxrun.proofs.print_sheet.Statement.{statement}
 use Rattle.boxrun.proofs.print_sheet.Tie as tie
+
+nothing-requires : tie.Need-nothing-requires
+nothing-requires c κs = search needs
 
 header-requires : tie.Need-header-requires
 header-requires c κs = search needs
@@ -15,27 +17,30 @@ slice-aggregate-print : tie.Need-slice-aggregate-print
 slice-aggregate-print c = search needs
 
 print-requires : tie.Need-print-requires
-print-requires c κs = search needs
+unfolding header bytesOf
+print-requires c κs =
+    let none = c .before .before .nothing .ensures in
+    let line = c .before .header .ensures in
+    (head-part (c .before .before .before .before .args .script .now) none line, omega (arith, none, ap length line))
 
-enum-known-head : tie.Need-enum-known-head
-enum-known-head c = search needs
+enum-known-part : tie.Need-enum-known-part
+enum-known-part c = search needs
 
 enum-told : tie.Need-enum-told
 enum-told c = search needs
 
 returns : tie.Need-returns
-returns c = search needs
-
-slice-aggregate-run : tie.Need-slice-aggregate-run
-slice-aggregate-run c =
-    let start = c .before .before .before .before .before .before .before .before .before in
-    sym (length-take-le (start .args .n) (start .args .script .now) (start .pre))
+returns c =
+    let printing = c .before .before in
+    let headed = printing .before .before in
+    failed-part _ _ (c .enum-told .given .1) (head-part (headed .before .before .before .args .script .now) (headed .before .nothing .ensures) (headed .header .ensures)) (printing .print .ensures)
 
 run-requires : tie.Need-run-requires
 run-requires c κs =
-    let start = c .before .before .before .before .before .before .before .before .before in (
-      omega (arith, length-take-le (start .args .n) (start .args .script .now) (start .pre), c .before .if1 .taken),
-      rw (c .before .before .before .head .given .1) at (c .before .before .before .before .before .print .ensures) ∙ ap length (c .before .before .before .before .before .before .before .header .ensures),
+    let printing = c .before .before .before .before in
+    let headed = printing .before .before in (
+      c .if1 .taken,
+      omega (arith, rw (c .before .before .part .given .1) at (printing .print .ensures), headed .before .nothing .ensures, ap length (headed .header .ensures)),
     )
 
 returns-2 : tie.Need-returns-2
@@ -48,55 +53,40 @@ slice-aggregate-print-2 : tie.Need-slice-aggregate-print-2
 slice-aggregate-print-2 c = search needs
 
 print-requires-2 : tie.Need-print-requires-2
-print-requires-2 c κs = search needs
-
-enum-known-line : tie.Need-enum-known-line
-enum-known-line c = search needs
-
-enum-told-2 : tie.Need-enum-told-2
-enum-told-2 c = search needs
+unfolding header tooLong bytesOf
+print-requires-2 c κs =
+    let printing = c .before .before .before .before .before .before in
+    let headed = printing .before .before in
+    let head : c .before .before .before .before .part .given .0 .0 .printed ≡ length header =
+    omega (arith, rw (c .before .before .before .before .part .given .1) at (printing .print .ensures), headed .before .nothing .ensures, ap length (headed .header .ensures)) in
+    let line = c .before .too-long .ensures in
+    (too-long-part (headed .before .before .before .args .script .now) (c .before .before .if1 .left) head line, omega (arith, head, ap length line))
 
 returns-3 : tie.Need-returns-3
-returns-3 c = search needs
-
-add-t18 : tie.Need-add-t18
-unfolding header tooLong bytesOf
-add-t18 c =
-    let line-put = c .before .before .before in
-    let head-put = line-put .before .before .before .before .before .before .before in
-    let head = rw (c .before .before .before .before .before .before .before .before .head .given .1) at (head-put .print .ensures) ∙ ap length (head-put .before .before .header .ensures) in
-    let line = rw (c .before .line .given .1) at (line-put .print2 .ensures) ∙ ap length (line-put .before .before .too-long .ensures) in
-    record { fits = omega (arith, head, line) }
-
-returns-4 : tie.Need-returns-4
-returns-4 c =
-    let line-put = c .before .before .before in
-    let head-put = line-put .before .before .before .before .before .before .before in
-    let head = rw (c .before .before .before .before .before .before .before .before .head .given .1) at (head-put .print .ensures) ∙ ap length (head-put .before .before .header .ensures) in
-    let line = rw (c .before .line .given .1) at (line-put .print2 .ensures) ∙ ap length (line-put .before .before .too-long .ensures) in
-    let start = head-put .before .before .before .before in
-    let n = length-take-le (start .args .n) (start .args .script .now) (start .pre) in
-    let text = too-long (take (start .args .n) (start .args .script .now)) (omega (arith, n, c .before .before .before .before .before .before .if1 .left)) in
-    omega (arith, head, line, text)
+returns-3 c =
+    let printing = c .before .before .before .before .before .before .before in
+    let headed = printing .before .before in
+    let head : c .before .before .before .before .before .part .given .0 .0 .printed ≡ length header =
+    omega (arith, rw (c .before .before .before .before .before .part .given .1) at (printing .print .ensures), headed .before .nothing .ensures, ap length (headed .header .ensures)) in
+    let line = c .before .before .too-long .ensures in
+    let script = headed .before .before .before .args .script .now in
+    let long = c .before .before .before .if1 .left in
+    last-part (c .print2 .result) (too-long-part script long head line) (c .print2 .ensures) (too-long-last script long head line)
 
 pub print-sheet-spec : {M : Type 1} → statement M
 print-sheet-spec =
     tie.close
     (tie.spec
+    nothing-requires
     header-requires
     slice-aggregate-print
     print-requires
-    enum-known-head
+    enum-known-part
     enum-told
     returns
-    slice-aggregate-run
     run-requires
     returns-2
     too-long-requires
     slice-aggregate-print-2
     print-requires-2
-    enum-known-line
-    enum-told-2
-    returns-3
-    add-t18
-    returns-4)
+    returns-3)

@@ -1,21 +1,21 @@
 use borrow.Author.Needs.{needs}
 use native.Mathlib.Omega.{arith}
 use Prim.Native.Nat.{_≤_, _-_}
-use mathlib.Core.Path.{_≡_, sym}
+use mathlib.Core.Path.{_≡_, sym, _∙_}
 use lib.Seq.{length-take-le}
 use lib.ListN.{length}
 use Rattle.soundness.specs.Parts.{tablesOf}
-use Rattle.boxrun.proofs.Going.{Going, begins, done, size-fits, room, short, stopped-here, within-script, further, went-further}
+use Rattle.boxrun.proofs.Going.{Going, begins, done, size-fits, failed-part, next-part, fits, last-here, within-script, further, went-further}
 use Rattle.boxrun.proofs.run.Statement.{statement}
 use Rattle.boxrun.proofs.run.Tie as tie
 
 abbrev Inv-loop : tie.InvT-loop
-Inv-loop script printed b₀ log₀ escrow₀ heaps₀ shared₀ log-values₀ escrow-values₀ text₀ total₀ at₀ b log escrow heaps shared log-values escrow-values text total at =
-    Going script (tablesOf b log escrow heaps shared log-values escrow-values) at total × (at ≤ length script) × (4096 ≡ length heaps) × (1024 ≡ length shared) × (4096 ≡ length log-values) × (4096 ≡ length escrow-values)
+Inv-loop script b₀ log₀ escrow₀ heaps₀ shared₀ log-values₀ escrow-values₀ text₀ so-far₀ at₀ b log escrow heaps shared log-values escrow-values text so-far at =
+    Going script (tablesOf b log escrow heaps shared log-values escrow-values) at (so-far .printed) × (at ≤ length script) × (4096 ≡ length heaps) × (1024 ≡ length shared) × (4096 ≡ length log-values) × (4096 ≡ length escrow-values)
     × (65536 ≡ length text)
 
 abbrev μ-loop : tie.MeasureT-loop
-μ-loop script printed b₀ log₀ escrow₀ heaps₀ shared₀ log-values₀ escrow-values₀ text₀ total₀ at₀ b log escrow heaps shared log-values escrow-values text total at =
+μ-loop script b₀ log₀ escrow₀ heaps₀ shared₀ log-values₀ escrow-values₀ text₀ so-far₀ at₀ b log escrow heaps shared log-values escrow-values text so-far at =
     length script - at
 
 fresh-record-requires : tie.Need-fresh-record-requires Inv-loop μ-loop
@@ -29,7 +29,7 @@ fresh-escrow-requires c κs = search needs
 
 loop-holds : tie.Need-loop-holds Inv-loop μ-loop
 loop-holds c = (
-  begins (c .before .before .before .before .args .script .now) (c .before .before .before .before .args .printed) _ _ _ (c .before .before .fresh-record .ensures) (c .before .fresh-log .ensures)
+  begins (c .before .before .before .before .args .script .now) (c .before .before .before .before .args .head .printed) _ _ _ (c .before .before .fresh-record .ensures) (c .before .fresh-log .ensures)
       (c .fresh-escrow .ensures) (c .before .before .before .before .pre .0) (c .before .before .before .before .pre .1),
   search needs,
   search needs,
@@ -76,62 +76,71 @@ slice-aggregate-print c =
     sym (length-take-le _ _ (size-fits (c .before .before .before .before .before .before .before .before .before .next-lines .ensures)))
 
 print-requires : tie.Need-print-requires Inv-loop μ-loop
-print-requires c κs = search needs
+print-requires c κs =
+    let turned = c .before .before .before .before .before .before .before .before .before in
+    let looping = turned .before .before .before .before .before .before .before in
+    let kept = looping .before .loop .inv in
+    let made = turned .next-lines .ensures in (
+      next-part (kept .0) (looping .loop-test .taken) made (sym (kept .6)),
+      fits (kept .0) (looping .loop-test .taken) made (sym (kept .6)) (looping .before .before .before .before .before .before .pre .0),
+    )
 
-enum-known-n : tie.Need-enum-known-n Inv-loop μ-loop
-enum-known-n c = search needs
+enum-known-part : tie.Need-enum-known-part Inv-loop μ-loop
+enum-known-part c = search needs
 
 enum-told : tie.Need-enum-told Inv-loop μ-loop
 enum-told c = search needs
 
 returns : tie.Need-returns Inv-loop μ-loop
-returns c = search needs
-
-add-total : tie.Need-add-total Inv-loop μ-loop
-add-total c =
-    let kept = c .before .before .before .before .before .before .before .before .before .before .before .before .before .before .before .before .before .before .before .before .before .loop .inv in
-    let left = c .before .before .before .before .before .before .before .before .before .before .before .before .before .before .before .before .before .before .before .before .loop-test .taken in
-    let made = c .before .before .before .before .before .before .before .before .before .before .before .before .before .next-lines .ensures in
-    let size = rw (c .before .n .given .1) at (c .before .before .before .print .ensures) in
-    record { fits = room (kept .0) left (c .before .before .before .before .before .before .before .before .before .before .before .before .before .before .before .before .before .before .before .before .before .before .before .before .before .before .pre .0) (short (kept .0) left made (sym (kept .6)) size) }
+returns c =
+    let printing = c .before .before in
+    let turned = printing .before .before .before .before .before .before .before .before .before .before in
+    let looping = turned .before .before .before .before .before .before .before in
+    let kept = looping .before .loop .inv in
+    failed-part _ _ (c .enum-told .given .1) (next-part (kept .0) (looping .loop-test .taken) (turned .next-lines .ensures) (sym (kept .6))) (printing .print .ensures)
 
 returns-2 : tie.Need-returns-2 Inv-loop μ-loop
 returns-2 c =
-    let kept = c .before .before .before .before .before .before .before .before .before .before .before .before .before .before .before .before .before .before .before .before .before .before .loop .inv in
-    let left = c .before .before .before .before .before .before .before .before .before .before .before .before .before .before .before .before .before .before .before .before .before .loop-test .taken in
-    let made = c .before .before .before .before .before .before .before .before .before .before .before .before .before .before .next-lines .ensures in
-    let size = rw (c .before .before .n .given .1) at (c .before .before .before .before .print .ensures) in
-    stopped-here (kept .0) left made (sym (kept .6)) size (c .if1 .taken)
+    let printing = c .before .before .before .before in
+    let turned = printing .before .before .before .before .before .before .before .before .before .before in
+    let looping = turned .before .before .before .before .before .before .before in
+    let kept = looping .before .loop .inv in
+    let left = looping .loop-test .taken in
+    let made = turned .next-lines .ensures in
+    rw (c .before .before .part .given .1) at (printing .print .ensures) ∙ last-here (kept .0) left made (sym (kept .6)) (c .if1 .taken)
 
 add-at : tie.Need-add-at Inv-loop μ-loop
 add-at c =
-    let kept = c .before .before .before .before .before .before .before .before .before .before .before .before .before .before .before .before .before .before .before .before .before .before .before .loop .inv in
-    let left = c .before .before .before .before .before .before .before .before .before .before .before .before .before .before .before .before .before .before .before .before .before .before .loop-test .taken in
-    let made = c .before .before .before .before .before .before .before .before .before .before .before .before .before .before .before .next-lines .ensures in
-    let size = rw (c .before .before .before .n .given .1) at (c .before .before .before .before .before .print .ensures) in
-    record { fits = omega (arith, within-script (kept .0) left made (sym (kept .6)) size, c .before .before .before .before .before .before .before .before .before .before .before .before .before .before .before .before .before .before .before .before .before .before .before .before .before .before .before .before .pre .0) }
+    let turned = c .before .before .before .before .before .before .before .before .before .before .before .before .before .before .before in
+    let looping = turned .before .before .before .before .before .before .before in
+    let kept = looping .before .loop .inv in
+    record { fits = omega (arith, within-script (kept .0) (looping .loop-test .taken) (turned .next-lines .ensures) (sym (kept .6)), looping .before .before .before .before .before .before .pre .0) }
 
 loop-less : tie.Need-loop-less Inv-loop μ-loop
 loop-less c =
-    let kept = c .before .before .before .before .before .before .before .before .before .before .before .before .before .before .before .before .before .before .before .before .before .before .before .loop .inv in
-    let left = c .before .before .before .before .before .before .before .before .before .before .before .before .before .before .before .before .before .before .before .before .before .before .loop-test .taken in
-    let made = c .before .before .before .before .before .before .before .before .before .before .before .before .before .before .before .next-lines .ensures in
-    let size = rw (c .before .before .before .n .given .1) at (c .before .before .before .before .before .print .ensures) in
-    omega (arith, within-script (kept .0) left made (sym (kept .6)) size, further (kept .0) left made (sym (kept .6)) size (c .before .if1 .left))
+    let turned = c .before .before .before .before .before .before .before .before .before .before .before .before .before .before .before in
+    let looping = turned .before .before .before .before .before .before .before in
+    let kept = looping .before .loop .inv in
+    let left = looping .loop-test .taken in
+    let made = turned .next-lines .ensures in
+    omega (arith, within-script (kept .0) left made (sym (kept .6)), further (kept .0) left made (sym (kept .6)) (c .before .if1 .left))
 
 loop-again : tie.Need-loop-again Inv-loop μ-loop
 loop-again c =
-    let kept = c .before .before .before .before .before .before .before .before .before .before .before .before .before .before .before .before .before .before .before .before .before .before .before .loop .inv in
-    let left = c .before .before .before .before .before .before .before .before .before .before .before .before .before .before .before .before .before .before .before .before .before .before .loop-test .taken in
-    let made = c .before .before .before .before .before .before .before .before .before .before .before .before .before .before .before .next-lines .ensures in
-    let size = rw (c .before .before .before .n .given .1) at (c .before .before .before .before .before .print .ensures) in (
-      went-further (kept .0) left made (sym (kept .6)) size (c .before .if1 .left),
-      within-script (kept .0) left made (sym (kept .6)) size,
-      search needs,
-      search needs,
-      search needs,
-      search needs,
-      search needs,
+    let back = c .before .before .before .before .before .before .before .before .before .before in
+    let turned = back .before .before .before .before .before in
+    let looping = turned .before .before .before .before .before .before .before in
+    let kept = looping .before .loop .inv in
+    let left = looping .loop-test .taken in
+    let made = turned .next-lines .ensures in
+    let next = rw (c .before .before .before .part .given .1) at (c .before .before .before .before .before .print .ensures) in (
+      went-further (kept .0) left made (sym (kept .6)) next (c .before .if1 .left),
+      within-script (kept .0) left made (sym (kept .6)),
+      sym (back .before .before .before .before .heaps2 .given),
+      sym (back .before .before .before .shared2 .given),
+      sym (back .before .before .log-values2 .given),
+      sym (back .before .escrow-values2 .given),
+      sym (back .text2 .given),
     )
 
 returns-3 : tie.Need-returns-3 Inv-loop μ-loop
@@ -160,10 +169,9 @@ run-spec =
     array-share-prefix-text
     slice-aggregate-print
     print-requires
-    enum-known-n
+    enum-known-part
     enum-told
     returns
-    add-total
     returns-2
     add-at
     loop-less
