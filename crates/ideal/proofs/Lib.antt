@@ -45,6 +45,7 @@ pub mod FixedCalls
 pub mod FixedRuns
 pub mod FixedSecret
 pub mod Faked
+pub mod FakedSecret
 pub mod Steered
 pub mod Differing
 pub mod Examined

@@ -130,14 +130,14 @@ agree-outside G {s} {t} k v w =
     }
 
 -- tables of two runs, with the states that they are the tables of
-record Related (G : ℕ → Bool) (x y : Tables) : Type 0 where
-  first : State
-  second : State
-  valid₁ : Valid first
-  valid₂ : Valid second
-  is₁ : tables first ≡ x
-  is₂ : tables second ≡ y
-  same : SameBut (held G) first second
+pub record Related (G : ℕ → Bool) (x y : Tables) : Type 0 where
+  pub first : State
+  pub second : State
+  pub valid₁ : Valid first
+  pub valid₂ : Valid second
+  pub is₁ : tables first ≡ x
+  pub is₂ : tables second ≡ y
+  pub same : SameBut (held G) first second
 
 related-step : (G : ℕ → Bool) (s t : State) (e f : Element) → Valid s → Valid t → SameBut (held G) s t → AlikeAt G (tables s) e f
     → PremiseAt callOn G (tables s) (tables t) e → Stepped noneExempt callOn G (Related G) (tables s) (tables t) e f
@@ -158,7 +158,7 @@ related-step G s t e f v w k a p =
           };
     }
 
-preserved : (G : ℕ → Bool) → Preserved noneExempt callOn G (Related G)
+pub preserved : (G : ℕ → Bool) → Preserved noneExempt callOn G (Related G)
 preserved G =
     record {
       agrees = λ r. subst₂ (λ x y. AgreeOutside G x y) (r .is₁) (r .is₂) (agree-outside G (r .same) (r .valid₁) (r .valid₂));
@@ -167,7 +167,7 @@ preserved G =
           (related-step G (r .first) (r .second) e f (r .valid₁) (r .valid₂) (r .same));
     }
 
-related-fresh : (G : ℕ → Bool) → Related G freshTables freshTables
+pub related-fresh : (G : ℕ → Bool) → Related G freshTables freshTables
 related-fresh G =
     record {
       first = fresh;

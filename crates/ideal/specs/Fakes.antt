@@ -1,5 +1,5 @@
--- The fakes that document 01 names under "What the buyer won't accept". Demand 2 shuts out each; and demand 3 shuts out a
--- definition in which a heap byte steers the handle.
+-- The fakes that document 01 names under "What the buyer won't accept". Demand 2 shuts out each, though each satisfies
+-- secrecy; and demand 3 shuts out a definition in which a heap byte steers the handle.
 use Prim.Native.Nat.{ℕ, _+_, _*_, _%_}
 use mathlib.Core.Bool.{cond}
 use mathlib.Core.List.{[], reverse}
@@ -86,6 +86,19 @@ pub record ShutOut : Type 0 where
   pub recovers-nothing-later : Demand2 recoversNothingLater → ⊥
   -- this one document 01 does not name
   pub turns-log-round : Demand2 turnsLogRound → ⊥
+
+-- demand 3 shuts out none of them
+pub record SatisfySecrecy : Type 0 where
+  pub refuses-each : Secrecy refusesEach
+  pub fixed-reply : Secrecy fixedReply
+  pub touches-nothing : Secrecy touchesNothing
+  pub serves-the-first : Secrecy servesTheFirst
+  pub invents-totals : Secrecy inventsTotals
+  pub says-not-there : Secrecy saysNotThere
+  pub says-log-full : Secrecy saysLogFull
+  pub says-escrow-full : Secrecy saysEscrowFull
+  pub recovers-nothing-later : Secrecy recoversNothingLater
+  pub turns-log-round : Secrecy turnsLogRound
 
 -- ---- a heap byte steers the handle
 
