@@ -11,7 +11,7 @@ use Rattle.ideal.specs.declared.BoxRecord.{BoxRecord}
 use Rattle.ideal.specs.Step.{Answer}
 use Rattle.ideal.specs.Tables.{Tables, freshTables}
 use Rattle.ideal.specs.Layouts.{Sound}
-use Rattle.ideal.proofs.Laid.{fresh-box}
+use Rattle.ideal.proofs.Kept.{fresh-box}
 use Rattle.state.specs.declared.LogTable.{LogTable}
 use Rattle.state.specs.declared.EscrowTable.{EscrowTable}
 use Rattle.soundness.specs.Parts.{tablesOf}

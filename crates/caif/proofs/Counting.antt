@@ -16,12 +16,12 @@ use Rattle.state.specs.declared.LogTable.{LogTable}
 use Rattle.state.specs.declared.EscrowTable.{EscrowTable}
 use Rattle.state.specs.declared.Change.{Change}
 use Rattle.state.specs.Answers.{refusedWith}
-use Rattle.state.specs.Edits.{logEdited, escrowEdited, EditsBy}
+use Rattle.state.specs.Edits.{logEdited, escrowEdited, Fits, EditsBy}
 use Rattle.calls.specs.Entry.{resultOf, readyOn, entryOn}
 use Rattle.calls.proofs.Whole.{refused-entry, ready-sound}
 use Rattle.caif.specs.declared.LentReply.{LentReply}
 use Rattle.caif.specs.Lent.{lentTables, lentResult}
-use Rattle.caif.specs.Counted.{rowsLost, RowFits}
+use Rattle.caif.specs.Counted.{rowsLost}
 
 -- what a host is given
 abbrev pub replyOf : Change → LentReply
@@ -36,8 +36,8 @@ CalledResult b log escrow heaps shared lv ev output bytes c heaps′ shared′ l
 -- what is left to show once it has returned c: its rows fit, and `answers` holds of them
 pub record Settles (c : Change) (logRows : List LogRow) (escrowRows : List EscrowRow) (Right : Type 0) : Type 0 where
   pub answers : Right
-  pub logFits : RowFits (c .edits .log .put) (c .edits .log .at) logRows
-  pub escrowFits : RowFits (c .edits .escrow .put) (c .edits .escrow .at) escrowRows
+  pub logFits : Fits (c .edits .log .put) (c .edits .log .at) (length logRows)
+  pub escrowFits : Fits (c .edits .escrow .put) (c .edits .escrow .at) (length escrowRows)
 
 pub settles : (b : BoxRecord) (log : LogTable) (escrow : EscrowTable) (heaps shared lv ev output bytes : List ℕ) (c : Change)
     {heaps′ shared′ lv′ ev′ output′ : List ℕ} {logRows : List LogRow} {escrowRows : List EscrowRow}

@@ -1,3 +1,3 @@
-pub mod Arms
 pub mod Counting
-pub mod EditRow
+pub mod Locals
+pub mod OneTable

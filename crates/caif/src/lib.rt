@@ -1,6 +1,5 @@
 // The box for hosts in C: what include/caif.h declares.
 mod counted;
-mod lent;
 mod writing;
 
 ghost use mathlib.Core.Path.{_≡_};
@@ -13,10 +12,10 @@ use counted::refused_rows;
 use ideal::BoxRecord;
 use ideal::EscrowRow;
 use ideal::LogRow;
-use lent::edit_escrow;
-use lent::edit_log;
 use rows::copy_escrow;
 use rows::copy_log;
+use rows::edit_escrow;
+use rows::edit_log;
 use state::Answer;
 use state::fresh_record;
 pub use writing::caif_write;
@@ -79,12 +78,19 @@ pub extern "C" fn caif_call(
         output,
         bytes,
     );
-    edit_log(log, c.edits.log.put, c.edits.log.at, c.edits.log.row);
+    edit_log(
+        log,
+        c.edits.log.put,
+        c.edits.log.at,
+        c.edits.log.row,
+        c.edits.log.fall,
+    );
     edit_escrow(
         escrow,
         c.edits.escrow.put,
         c.edits.escrow.at,
         c.edits.escrow.row,
+        c.edits.escrow.fall,
     );
     LentReply {
         held: c.held,

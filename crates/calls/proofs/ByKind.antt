@@ -18,6 +18,7 @@ use Rattle.state.specs.declared.Change.{Change}
 use Rattle.state.specs.Answers.{settled, showed}
 use Rattle.state.proofs.Settled.{answerOf, ShowsNone, answered-alone}
 use Rattle.state.proofs.Showing.{Shows}
+use Rattle.state.proofs.Stores.{onLog, onEscrow}
 use Rattle.services.specs.Narrow.{createOn, startOn, yieldOn, exitOn, exitHeaps, reportOn}
 use Rattle.services.proofs.Bridge.{replacePlaces, create-step, start-step, yield-step, exit-step, report-step}
 use Rattle.shared.specs.Narrow.{sharedWriteAnswer, sharedWriteShared, sharedReadAnswer, sharedReadOutput}
@@ -25,9 +26,9 @@ use Rattle.shared.proofs.Bridge.{shared-write-step, shared-read-step}
 use Rattle.heap.specs.Narrow.{heapWriteAnswer, heapWriteHeaps, heapReadAnswer, heapReadOutput}
 use Rattle.heap.proofs.Bridge.{heap-write-step, heap-read-step}
 use Rattle.log.specs.Narrow.{attestOn, checkOn}
-use Rattle.log.proofs.Bridge.{onLog, attest-step, attest-alone, check-step}
+use Rattle.log.proofs.Bridge.{attest-step, attest-alone, check-step}
 use Rattle.escrow.specs.Narrow.{protectOn}
-use Rattle.escrow.proofs.Bridge.{replaceEscrow, protect-step, protect-alone}
+use Rattle.escrow.proofs.Bridge.{protect-step, protect-alone}
 use Rattle.retrieval.specs.Narrow.{retrieveAnswer, retrieveHeaps}
 use Rattle.retrieval.proofs.Bridge.{retrieve-step}
 use Rattle.calls.specs.Entry.{EntryResult, resultOn, carriedOn}
@@ -57,12 +58,12 @@ byKind t output bytes (SharedWrite o part) =
 byKind t output bytes (SharedRead o n) = replied t (sharedReadAnswer o n) (sharedReadOutput (t .shared) output o n)
 byKind t output bytes (Attest o n) =
     let r = attestOn (t .box) (t .logRows) (t .heaps) (t .logValues) o n in
-    replied (onLog t r 0 .tables) (r .change .answer) output
+    replied (onLog t r) (r .change .answer) output
 byKind t output bytes (Check i g part) =
     replied t (checkOn (t .box) (t .logRows) (t .logValues) i g (bytesIn bytes part)) output
 byKind t output bytes (Protect i o n d) =
     let r = protectOn (t .box) (t .escrowRows) (t .heaps) (t .escrowValues) i o n d in
-    replied (replaceEscrow t r) (r .change .answer) output
+    replied (onEscrow t r) (r .change .answer) output
 byKind t output bytes (Retrieve i o h) =
     replied (replaceHeaps t (retrieveHeaps (t .box) (t .escrowRows) (t .heaps) (t .escrowValues) i o h))
     (retrieveAnswer (t .box) (t .escrowRows) (t .escrowValues) i o h) output

@@ -123,7 +123,7 @@ module _
       unfolding byKind
       attested {o} {k} e g = (
         by-kind s output bytes called (rw (e, ← g)),
-        rw (ap (λ (x : Stored). x .change) g) (attest-edits b (log .rows) heaps lv o k (ready s .log .few)),
+        rw (ap (λ (x : Stored). x .change) g) (attest-edits b (log .rows) heaps lv o k (ready s .runs) (ready s .log .few)),
       )
 
       pub protected : {i o k : ℕ} {d : Draw} {left : List ℕ} → called ≡ Protect i o k d

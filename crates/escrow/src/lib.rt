@@ -4,9 +4,9 @@ ghost use Prim.Native.Nat.{_≤_};
 ghost use lib.ListN.{length};
 ghost use Rattle.ideal.specs.Tables.{escrowTable};
 ghost use Rattle.state.specs.Counts.{Room};
-ghost use Rattle.state.specs.Edits.{stored};
+ghost use Rattle.state.specs.Edits.{stored, escrowStore, more};
 ghost use Rattle.state.specs.Parts.{TableFits};
-ghost use Rattle.escrow.specs.Narrow.{moreEscrow, protectValue, protectOn};
+ghost use Rattle.escrow.specs.Narrow.{protectValue, protectOn};
 use buffers::put;
 use handles::free_handle;
 use ideal::BoxRecord;
@@ -33,7 +33,7 @@ fn escrow_more(
     value: &[u8],
 ) -> Change
     requires { ⌜ (length (now values) ≡ 4096) × Room (held .escrow) (length (now value)) ⌝ }
-    ensures { λ r. ⌜ stored r (now (values .exit)) ≡ moreEscrow held (now (values .entry)) (record { source = source; recipient = recipient; handle = handle }) (now (value .entry)) ⌝ }
+    ensures { λ r. ⌜ stored r (now (values .exit)) ≡ more escrowStore held (now (values .entry)) (record { source = source; recipient = recipient; handle = handle }) (now (value .entry)) ⌝ }
 {
     let used = held.escrow;
     let size = value.len() as u16;
@@ -55,6 +55,7 @@ fn escrow_more(
         put: true,
         at: used.rows as usize,
         row,
+        fall: 0,
     };
     let edits = Edits {
         log: no_log_edit(),

@@ -1,19 +1,18 @@
 -- What the calls on heaps do to the tables of a valid state is the step of that state, laid out. Assumes nothing.
 use Prim.Native.Nat.{ℕ}
-use mathlib.Core.Path.{_≡_, refl, sym, ap, _∙_}
+use mathlib.Core.Path.{_≡_, refl, _∙_}
 use mathlib.Core.List.{List, []}
-use native.Mathlib.Omega.{arith}
 use lib.ListN.{length}
 use lib.Seq.{sets}
 use Rattle.record.specs.Call.{heapWrite, heapRead}
-use Rattle.ideal.specs.State.{part, heapAt, ownPart}
+use Rattle.ideal.specs.State.{part}
 use Rattle.ideal.specs.Step.{idle, tests, refusal, move, apply, effect, number, shown, step}
 use Rattle.ideal.specs.Tables.{Tables, tables, stateOf}
 use Rattle.ideal.specs.Box.{laid}
 use Rattle.ideal.specs.Valid.{Valid}
-use Rattle.ideal.proofs.HeapBytes.{replaceHeaps, own-bytes, written-bytes}
-use Rattle.ideal.proofs.Table.{part-length}
+use Rattle.ideal.proofs.HeapBytes.{replaceHeaps, written-bytes}
 use Rattle.state.specs.Parts.{heapByte}
+use Rattle.state.proofs.Parts.{own-value, own-count}
 use Rattle.state.proofs.Settled.{answerOf, part-settled, Moves, laid-step}
 use Rattle.state.proofs.Showing.{Shows, shows}
 use Rattle.heap.specs.Narrow.{heapRefusal, heapWriteAnswer, heapWriteHeaps, heapReadAnswer, heapReadOutput}
@@ -40,21 +39,10 @@ module _ (t : Tables) (k : Valid (stateOf t)) (e : tables (stateOf t) ≡ t) whe
       laid-step used e (heap-write-moves p o v)
       ∙ part-settled (replaceHeaps t) (t .heaps) _ (heapRefusal (t .box .running) p o (length v)) (length v) used refl
 
-  own-shown : (p o n : ℕ) → heapRefusal (t .box .running) p o n ≡ 0
-      → ownPart (stateOf t) o n ≡ part (t .heaps) (heapByte (t .box) o) n
-  own-shown p o n r = let f = heap-fits (t .box .running) p o n r in own-bytes t k e o n (f .runs) (f .within)
-
-  own-count : (p o n : ℕ) → heapRefusal (t .box .running) p o n ≡ 0 → length (part (t .heaps) (heapByte (t .box) o) n) ≡ n
-  unfolding ownPart stateOf
-  own-count p o n r =
-      let f = heap-fits (t .box .running) p o n r in
-      let s = k .sizes (t .box .running) (f .runs) in
-      ap length (sym (own-shown p o n r)) ∙ part-length (heapAt (stateOf t) (t .box .running)) o n (omega (arith, f .within))
-
   pub heap-read-step : (p o n : ℕ) (output : List ℕ) (used : ℕ)
       → Shows t (heapRead p o n) used (heapReadAnswer (t .box) p o n) output (heapReadOutput (t .box) (t .heaps) output p o n)
   unfolding heapReadAnswer heapReadOutput effect move apply number shown refusal tests heapRefusal idle stateOf
   heap-read-step p o n output used =
       shows t used n (part (t .heaps) (heapByte (t .box) o) n) output (heapRead p o n) e
-      (record { leaves = λ r. e; answers = λ r. refl; shows = own-shown p o n })
-      (own-count p o n)
+      (record { leaves = λ r. e; answers = λ r. refl; shows = λ r. own-value t k e o n (heap-fits (t .box .running) p o n r) })
+      (λ r. own-count t k e o n (heap-fits (t .box .running) p o n r))

@@ -1,18 +1,5 @@
--- Demand 2, proved of the box: the statements of specs/Accuracy.antt. Assumes nothing.
-use Rattle.ideal.specs.Box.{callOn}
-use Rattle.ideal.specs.Accuracy.{CheckIsAccurate, RetrieveIsAccurate, HandleOnce, HandleIsFirstFree}
-use Rattle.ideal.proofs.Checks.{check-at}
-use Rattle.ideal.proofs.Retrieves.{retrieve-at}
-use Rattle.ideal.proofs.Handles.{once, is-first-free}
-
-pub check-is-accurate : CheckIsAccurate callOn
-check-is-accurate = check-at
-
-pub retrieve-is-accurate : RetrieveIsAccurate callOn
-retrieve-is-accurate = retrieve-at
-
-pub handle-once : HandleOnce callOn
-handle-once = once
-
-pub handle-is-first-free : HandleIsFirstFree callOn
-handle-is-first-free = is-first-free
+-- Demand 2: where the statements of specs/Accuracy.antt are proved, but for HandleIsFirstFree (FirstFree.antt). The prover
+-- comes to these files before most others, so that a wrong definition is refused in them first (tests/edits/run).
+pub use Rattle.ideal.proofs.Checks.{check-is-accurate, long-check-is-no}
+pub use Rattle.ideal.proofs.Retrieves.{retrieve-is-accurate}
+pub use Rattle.ideal.proofs.Handles.{handle-once}

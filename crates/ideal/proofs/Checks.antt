@@ -14,7 +14,7 @@ use Rattle.ideal.specs.State.{State, Logged, any, every, sameBytes}
 use Rattle.ideal.specs.Step.{isLogged, logged, tests, firstHolding, refusal, number, accepted}
 use Rattle.ideal.specs.Tables.{stateOf}
 use Rattle.ideal.specs.Box.{Element, laid, callOn, elementAt}
-use Rattle.ideal.specs.Accuracy.{LogsAt, Says, Sized, CheckAt, LongCheckIsNo}
+use Rattle.ideal.specs.Accuracy.{LogsAt, Says, Sized, CheckAt, CheckIsAccurate, LongCheckIsNo}
 use Rattle.lists.proofs.Bools.{by-cases, clash, and-left, and-right, and-false, or-false}
 use Rattle.lists.proofs.Lists.{same-bytes}
 use Rattle.ideal.proofs.Entries.{isShort, short-entries}
@@ -32,10 +32,6 @@ check-refusal s i g v h = rw (ne-eqb i 0 h)
 check-named : (s : State) (i : ℕ) (g : Tag) (v : List ℕ) → refusal s (check i g v) ≡ 0 → i ≡ 0 → ⊥
 unfolding refusal tests
 check-named s i g v h = eqb-false i 0 (failed 8 _ _ h)
-
-pub check-number : (s : State) (i : ℕ) (g : Tag) (v : List ℕ) → number s (check i g v) ≡ cond (logged i g v (s .log)) 1 0
-unfolding number
-check-number s i g v = refl
 
 -- who logs has an identity
 logs-named : (es : List Element) (k i : ℕ) (g : Tag) (v : List ℕ) → LogsAt callOn es i v g k → i ≡ 0 → ⊥
@@ -65,15 +61,17 @@ module _ (es : List Element) (k i : ℕ) (g : Tag) (v : List ℕ) (used : ℕ)
     log : logged i g v (s .log) ≡ b
 
   says : (b : Bool) → Told b → Says callOn es (cond b 1 0) k
+  unfolding number
   says b t =
       let a : Accepted s (elementAt es k) c used =
       record { sized = t .sized; reads = reads; passes = check-refusal s i g v (t .named) } in
-      (accepts-at es k c used a, number-at es k c used a ∙ check-number s i g v ∙ rw (t .log))
+      (accepts-at es k c used a, number-at es k c used a ∙ ap (λ x. cond x 1 0) (t .log))
 
   said : (b : Bool) → Says callOn es (cond b 1 0) k → Told b
+  unfolding number
   said b p =
       let a = accepted-at es k c used reads (p .0) in
-      let n = sym (check-number s i g v) ∙ sym (number-at es k c used a) ∙ p .1 in
+      let n = sym (number-at es k c used a) ∙ p .1 in
       record { sized = a .sized; named = check-named s i g v (a .passes); log = same-cond 0 _ b n }
 
   pub check-at : CheckAt callOn es k i g v
@@ -91,6 +89,9 @@ module _ (es : List Element) (k i : ℕ) (g : Tag) (v : List ℕ) (used : ℕ)
               says false (record { sized = p .0; named = p .1; log = f }),
         );
       }
+
+pub check-is-accurate : CheckIsAccurate callOn
+check-is-accurate = check-at
 
 -- where no value is longer than 256 bytes, a longer one is not among them
 not-logged : (i : ℕ) (g : Tag) (v : List ℕ) (l : List Logged) → 256 < length v

@@ -1,12 +1,13 @@
--- The three demands, of the definition that the code is equated with. Assumes nothing.
+-- The three demands, of the definition that the code is equated with. FirstFree.antt comes last, so that a definition with
+-- a heap byte in the handle is refused in Secret.antt first (tests/edits/run). Assumes nothing.
 use Rattle.ideal.specs.Box.{callOn}
 use Rattle.ideal.specs.Demands.{Demands}
 use Rattle.ideal.proofs.Numbers.{each-number, refusals-alter-nothing}
 use Rattle.ideal.proofs.Accepts.{accepted-answers}
 use Rattle.ideal.proofs.Histories.{history-holds, reports}
-use Rattle.ideal.proofs.Checks.{long-check-is-no}
-use Rattle.ideal.proofs.Accurate.{check-is-accurate, retrieve-is-accurate, handle-once, handle-is-first-free}
+use Rattle.ideal.proofs.Accurate.{check-is-accurate, long-check-is-no, retrieve-is-accurate, handle-once}
 use Rattle.ideal.proofs.Secret.{secrecy}
+use Rattle.ideal.proofs.FirstFree.{handle-is-first-free}
 
 pub demands : Demands callOn
 demands =

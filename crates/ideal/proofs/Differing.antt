@@ -18,14 +18,14 @@ use Rattle.ideal.specs.Refusals.{ownBytes}
 use Rattle.ideal.specs.Secrecy.{inside, groupRuns, AlikeAt, same, other-bytes, PremiseAt}
 use Rattle.ideal.specs.Witness.{group, calls, element, elements, PremisesCanBeMet}
 use Rattle.ideal.specs.Valid.{Valid}
-use Rattle.ideal.proofs.Laid.{stepElement, valid-fresh, valid-effect, fresh-tables, call-is}
+use Rattle.ideal.proofs.Laid.{stepElement, fresh-tables, call-is}
+use Rattle.ideal.proofs.Kept.{valid-fresh, valid-effect}
 use Rattle.lists.proofs.Bools.{and-false, and-other}
 use Rattle.ideal.proofs.Hosted.{byte-is}
 use Rattle.ideal.proofs.OwnHeap.{own-bytes as own-heap}
 use Rattle.ideal.proofs.TwoStates.{SameBut, same-state, AlikeCalls, same-call, other-call, NoneTold}
-use Rattle.ideal.proofs.ByKind.{same-effect}
 use Rattle.ideal.proofs.TwoRuns.{Indexed, ended, both}
-use Rattle.ideal.proofs.Secret.{held, runs-below}
+use Rattle.ideal.proofs.Secret.{same-effect, held, runs-below}
 use Rattle.ideal.proofs.Does.{protect-passed}
 
 -- ---- a list of calls, each read back from its record and accepted

@@ -1,19 +1,19 @@
--- What an accepted call does: its move, with what its tests made sure of. Invariants go by this, one case a move; that each
--- kind's call does its move is `does` (ByKind.antt). Assumes nothing.
+-- What an accepted call does: its move, with what its tests made sure of. Invariants go by this, one case a move. Assumes
+-- nothing.
 use Prim.Native.Nat.{ℕ, _+_, _^_, _≤_, _<_}
-use mathlib.Core.Path.{_≡_}
+use mathlib.Core.Path.{_≡_, refl}
 use mathlib.Core.Bool.{true, false, not, _&&_}
 use mathlib.Core.List.{List, [], _∷_}
 use native.Mathlib.Omega.{arith}
 use lib.ListN.{length, length-drop}
 use lib.Seq.{length-take-le}
-use lib.Dec.{eqb}
-use borrow.Author.Tests.{ltb-false, eqb-false, leb-false}
+use lib.Dec.{eqb, ltb}
+use borrow.Author.Tests.{ltb-false, eqb-true, eqb-false, leb-false, not-false}
 use Rattle.record.specs.declared.Draw.{Draw}
-use Rattle.record.specs.Call.{Call, attest, protect}
+use Rattle.record.specs.Call.{Call, create, start, yield, exit, heapWrite, heapRead, sharedWrite, sharedRead, attest, check, protect, retrieve, report}
 use Rattle.record.specs.Write.{filled}
-use Rattle.ideal.specs.State.{State, Move, nothing, takes, activates, empties, writes, shares, logs, escrows, identityAt, caller, ownPart}
-use Rattle.ideal.specs.Step.{paired, pairOf, full, idle, beyond, tests, refusal, protected}
+use Rattle.ideal.specs.State.{State, Move, nothing, takes, activates, empties, writes, shares, logs, escrows, identityAt, caller, ownPart, any}
+use Rattle.ideal.specs.Step.{paired, pairOf, full, idle, vacant, beyond, tests, refusal, protected, move}
 use Rattle.ideal.specs.Refusals.{oneOf}
 use Rattle.ideal.specs.Valid.{Valid}
 use Rattle.ideal.proofs.Chain.{failed, passed}
@@ -76,3 +76,34 @@ pub data Does (s : State) : Call → Move → Type 0 where
   does-share : {c : Call} {o : ℕ} {v : List ℕ} → o + length v ≤ 1024 → Does s c (shares o v)
   does-log : {o n : ℕ} → AttestPassed s o n → Does s (attest o n) (logs (pairOf (caller s) (ownPart s o n)))
   does-escrow : {i o n : ℕ} {d : Draw} → ProtectPassed s i o n d → Does s (protect i o n d) (escrows (protected s i o n d))
+
+-- ---- the move of each kind
+
+pub does : (s : State) (c : Call) → Valid s → refusal s c ≡ 0 → Does s c (move s c)
+unfolding move refusal tests vacant beyond oneOf any filled
+does s (create p i) k r =
+    let r₁ = passed 5 (ltb 15 p) _ r in
+    let h = ltb-false 15 p (failed 5 _ _ r) in
+    let low : p < 16 = omega arith in
+    let empty = eqb-true (identityAt s p) 0 (not-false _ (failed 6 _ _ r₁)) in
+    does-take low empty (eqb-false i 0 (failed 8 _ _ (passed 6 _ _ r₁)))
+does s (start p) k r =
+    let r₁ = passed 4 _ _ r in
+    let h = ltb-false 15 p (failed 5 _ _ r₁) in
+    let low : p ≤ 16 = omega arith in
+    does-activate low (λ h. eqb-false (identityAt s p) 0 (failed 6 _ _ (passed 5 (ltb 15 p) _ r₁)))
+does s yield k r = does-activate {p = 16} (omega arith) (λ h. absurd (omega arith))
+does s exit k r = does-empty (busy s k (failed 3 _ _ r))
+does s (heapWrite p o v) k r =
+    does-write refl (busy s k (failed 3 _ _ r))
+    (ltb-false 256 (o + length v) (failed 10 _ _ (passed 7 _ _ (passed 5 _ _ (passed 3 _ _ r)))))
+does s (heapRead p o n) k r = does-nothing
+does s (sharedWrite o v) k r = does-share (ltb-false 1024 (o + length v) (failed 10 _ _ r))
+does s (sharedRead o n) k r = does-nothing
+does s (attest o n) k r = does-log (attest-passed s o n k r)
+does s (check i g v) k r = does-nothing
+does s (protect i o n d) k r = does-escrow (protect-passed s i o n d k r)
+does s (retrieve i o h) k r =
+    does-write refl (busy s k (failed 3 _ _ r))
+    (ltb-false 256 _ (failed 10 _ _ (passed 9 _ _ (passed 8 _ _ (passed 3 _ _ r)))))
+does s report k r = does-nothing

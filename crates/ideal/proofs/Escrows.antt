@@ -4,23 +4,19 @@ use mathlib.Core.Path.{_≡_, refl, sym, ap, _∙_}
 use mathlib.Core.Logic.{_↔_, _⊎_, inl, inr}
 use mathlib.Core.Bool.{Bool, true, _&&_, _||_}
 use mathlib.Core.List.{List}
-use mathlib.Core.Option.{some}
 use lib.Dec.{eqb}
 use borrow.Author.Tests.{eqb-true, eq-eqb}
 use Rattle.record.specs.declared.Handle.{Handle}
 use Rattle.record.specs.declared.Draw.{Draw}
 use Rattle.record.specs.Call.{Call, protect}
 use Rattle.record.specs.Read.{whole}
-use Rattle.ideal.specs.State.{Escrowed, State, Move, fresh, caller, any, sameBytes}
-use Rattle.ideal.specs.Step.{isEscrowed, found, hasHandle, protected, move, apply, effect, number}
-use Rattle.ideal.specs.Soundness.{sameHandle}
+use Rattle.ideal.specs.State.{Escrowed, State, Move, fresh, any, sameBytes}
+use Rattle.ideal.specs.Step.{protected, move, apply, effect, number}
 use Rattle.ideal.specs.Box.{Element, callOn, elementAt}
-use Rattle.ideal.specs.Accuracy.{Earlier, ProtectsAt, ProtectedBefore}
+use Rattle.ideal.specs.Accuracy.{Earlier, ProtectsAt}
 use Rattle.lists.proofs.Bools.{and-left, and-right, and-true}
 use Rattle.lists.proofs.Lists.{same-bytes, same-bytes-refl, any-append, any-one}
-use Rattle.ideal.proofs.Unique.{finds, found-any}
 use Rattle.ideal.specs.Valid.{Valid}
-use Rattle.ideal.proofs.Entries.{escrow-of}
 use Rattle.ideal.proofs.Does.{ProtectPassed, protect-passed, Does, does-nothing, does-take, does-activate, does-empty, does-write, does-share, does-log, does-escrow}
 use Rattle.ideal.proofs.Runs.{stateBefore, valid-before, caller-before, own-before, accepted-at, accepts-at, Accepted, number-at}
 use Rattle.ideal.proofs.Since.{Fed, AddsAt, since}
@@ -51,33 +47,34 @@ more test s c (protects a) valid = rw (any-append test (s .escrow), any-one test
 
 -- the entry is under this handle, from this source for this recipient, and has this value
 unfoldable pub isHeld : Handle → ℕ → ℕ → List ℕ → Escrowed → Bool
-isHeld h i r v e = isEscrowed h i r e && sameBytes (e .value) v
+isHeld h i r v e =
+    eqb (e .key .handle .0) (h .0) && (eqb (e .key .source) i && (eqb (e .key .recipient) r && sameBytes (e .value) v))
 
-pub record IsHeld (h : Handle) (i r : ℕ) (v : List ℕ) (e : Escrowed) : Type 0 where
-  pub handle : e .key .handle .0 ≡ h .0
-  pub source : e .key .source ≡ i
-  pub recipient : e .key .recipient ≡ r
-  pub value : e .value ≡ v
+record IsHeld (h : Handle) (i r : ℕ) (v : List ℕ) (e : Escrowed) : Type 0 where
+  handle : e .key .handle .0 ≡ h .0
+  source : e .key .source ≡ i
+  recipient : e .key .recipient ≡ r
+  value : e .value ≡ v
 
 module _ (h : Handle) (i r : ℕ) (v : List ℕ) (e : Escrowed) where
-  pub is-held : isHeld h i r v e ≡ true → IsHeld h i r v e
-  unfolding isHeld isEscrowed
+  is-held : isHeld h i r v e ≡ true → IsHeld h i r v e
+  unfolding isHeld
   is-held q =
-      let k = and-left (isEscrowed h i r e) _ q in
-      let t = and-right (eqb (e .key .handle .0) (h .0)) _ k in
+      let x = and-right (eqb (e .key .handle .0) (h .0)) _ q in
+      let y = and-right (eqb (e .key .source) i) _ x in
       record {
-        handle = eqb-true _ _ (and-left (eqb (e .key .handle .0) (h .0)) _ k);
-        source = eqb-true _ _ (and-left (eqb (e .key .source) i) _ t);
-        recipient = eqb-true _ _ (and-right (eqb (e .key .source) i) _ t);
-        value = same-bytes _ _ (and-right (isEscrowed h i r e) _ q);
+        handle = eqb-true _ _ (and-left (eqb (e .key .handle .0) (h .0)) _ q);
+        source = eqb-true _ _ (and-left (eqb (e .key .source) i) _ x);
+        recipient = eqb-true _ _ (and-left (eqb (e .key .recipient) r) _ y);
+        value = same-bytes _ _ (and-right (eqb (e .key .recipient) r) _ y);
       }
 
-  pub held-is : IsHeld h i r v e → isHeld h i r v e ≡ true
-  unfolding isHeld isEscrowed
+  held-is : IsHeld h i r v e → isHeld h i r v e ≡ true
+  unfolding isHeld
   held-is q =
-      and-true _ _
-      (and-true _ _ (eq-eqb _ _ (q .handle)) (and-true _ _ (eq-eqb _ _ (q .source)) (eq-eqb _ _ (q .recipient))))
-      (rw (q .value) (same-bytes-refl v))
+      and-true _ _ (eq-eqb _ _ (q .handle))
+      (and-true _ _ (eq-eqb _ _ (q .source))
+      (and-true _ _ (eq-eqb _ _ (q .recipient)) (rw (q .value) (same-bytes-refl v))))
 
 module _ (es : List Element) (h : Handle) (i r : ℕ) (v : List ℕ) where
   fed : Fed Protects entry (isHeld h i r v) (λ s. s .escrow)
@@ -132,46 +129,3 @@ module _ (es : List Element) (h : Handle) (i r : ℕ) (v : List ℕ) where
   held-since =
       since Protects entry (isHeld h i r v) (λ s. s .escrow) fed es (ProtectsAt callOn es i r h v)
       (λ k. (protects-at k, adds-at k))
-
--- ---- what a retrieve finds
-
--- the running program finds v from the source under the handle
-pub record Finds (s : State) (source : ℕ) (h : Handle) (v : List ℕ) : Type 0 where
-  pub entry : Escrowed
-  pub is : found s source h ≡ some entry
-  pub value : entry .value ≡ v
-
-like : (h : Handle) (i r : ℕ) (a b : Escrowed) → isEscrowed h i r a ≡ true → isEscrowed h i r b ≡ true
-    → sameHandle a b ≡ true
-unfolding isEscrowed sameHandle hasHandle
-like h i r a b x y =
-    let m = eqb-true (a .key .handle .0) (h .0) (and-left _ _ x) in
-    let n = eqb-true (b .key .handle .0) (h .0) (and-left _ _ y) in
-    eq-eqb _ _ (n ∙ sym m)
-
-held-found : (s : State) (i : ℕ) (h : Handle) (v : List ℕ) → Valid s
-    → (any (isHeld h i (caller s) v) (s .escrow) ≡ true) ↔ Finds s i h v
-unfolding isHeld found
-held-found s i h v valid = (to, from)
-  where
-    p : Escrowed → Bool
-    p = isEscrowed h i (caller s)
-
-    q : Escrowed → Bool
-    q = λ e. sameBytes (e .value) v
-
-    to : any (λ e. p e && q e) (s .escrow) ≡ true → Finds s i h v
-    to x =
-        let r = finds sameHandle p q (like h i (caller s)) (s .escrow) (escrow-of valid .apart) x in
-        record { entry = r .element; is = r .is; value = same-bytes _ _ (r .passes) }
-
-    from : Finds s i h v → any (λ e. p e && q e) (s .escrow) ≡ true
-    from f = found-any p q (s .escrow) (f .entry) (f .is) (rw (f .value) (same-bytes-refl v))
-
--- it is found where an earlier accepted protect escrowed it for the running program
-pub found-since : (es : List Element) (k i : ℕ) (h : Handle) (v : List ℕ)
-    → Finds (stateBefore es k) i h v ↔ ProtectedBefore callOn es k i h v
-found-since es k i h v =
-    let held = held-found (stateBefore es k) i h v (valid-before es k) in
-    let since = held-since es h i (caller (stateBefore es k)) v k in
-    rw (caller-before es k) (λ f. since .0 (held .1 f), λ x. held .0 (since .1 x))

@@ -10,7 +10,8 @@ use Rattle.ideal.specs.Tables.{tables}
 use Rattle.ideal.specs.Box.{Element, laid, callOn, answersFrom}
 use Rattle.ideal.specs.Exam.{hex, says, _gives_, questions, asked, expected, Exam}
 use Rattle.ideal.specs.Valid.{Valid}
-use Rattle.ideal.proofs.Laid.{stepElement, valid-fresh, valid-step, fresh-tables, call-is}
+use Rattle.ideal.proofs.Laid.{stepElement, fresh-tables, call-is}
+use Rattle.ideal.proofs.Kept.{valid-fresh, valid-step}
 
 -- the answers of a list of calls on a state
 unfoldable answersOn : State → List Element → List Answer

@@ -14,7 +14,7 @@ use Rattle.ideal.specs.OneCall.{leaves, countedNumber, shows, Done, OneC
 use Rattle.lists.proofs.Bools.{by-cases}
 use Rattle.ideal.proofs.Numbers.{each-number, refusals-alter-nothing}
 use Rattle.ideal.proofs.Accepts.{accepted-answers}
-use Rattle.ideal.proofs.Accurate.{handle-is-first-free}
+use Rattle.ideal.proofs.FirstFree.{handle-is-first-free}
 use Rattle.ideal.proofs.OneAnswer.{one-free, same-used, same-answer, same-result, accepted-reads}
 use Rattle.ideal.proofs.OneCalls.{does}
 

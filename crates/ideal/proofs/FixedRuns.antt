@@ -18,7 +18,7 @@ use Rattle.record.specs.Call.{Call, create, start, yield, exit, heapWrite, heap
 use Rattle.record.specs.Read.{Reading, refused, whole, read}
 use Rattle.record.specs.Write.{filled}
 use Rattle.ideal.specs.State.{Move, any}
-use Rattle.ideal.specs.Step.{Answer, logged}
+use Rattle.ideal.specs.Step.{Answer, logged, number}
 use Rattle.ideal.specs.Tables.{Tables, freshTables}
 use Rattle.ideal.specs.Box.{Element, Result, callOn, elementAt, tablesFrom, answersFrom, tablesAfter, tablesBefore, answerAt}
 use Rattle.ideal.specs.Refusals.{callerIn, ownBytes, oneOf}
@@ -30,7 +30,6 @@ use Rattle.ideal.specs.Fixed.{FixedByTwo, Fixed}
 use Rattle.lists.proofs.Bools.{by-cases}
 use Rattle.ideal.proofs.OneAnswer.{one-free, same-used, same-answer, accepted-reads}
 use Rattle.ideal.proofs.Runs.{stateBefore, accepted-at, number-at}
-use Rattle.ideal.proofs.Checks.{check-number}
 use Rattle.ideal.proofs.Retrieves.{handed}
 use Rattle.ideal.proofs.Demanded.{demands}
 use Rattle.ideal.proofs.OnePast.{one-past}
@@ -263,10 +262,11 @@ module _ (box : Box) (two : Demand2 box) where
 
     check-is : (i : ℕ) (g : Tag) (v : List ℕ) (used : ℕ) → read (e .bytes) ≡ whole (check i g v) used
         → answerAt callOn es k .code ≡ 0 → answerAt box es k .number ≡ answerAt callOn es k .number
+    unfolding number
     check-is i g v used q z =
         let there = logged i g v (stateBefore es k .log) in
         let n : answerAt callOn es k .number ≡ cond there 1 0 =
-        number-at es k (check i g v) used (accepted-at es k (check i g v) used q z) ∙ check-number (stateBefore es k) i g v in
+        number-at es k (check i g v) used (accepted-at es k (check i g v) used q z) in
         let c = two .checks es k i g v used q in
         let d = demands .two .checks es k i g v used q in
         by-cases there

@@ -7,25 +7,59 @@ use native.Mathlib.Omega.{arith}
 use lib.ListN.{length, getD, take}
 use lib.Dec.{eqb, eqb·suc-zero}
 use borrow.Author.Tests.{ltb-false, eqb-true, not-false}
-use Rattle.record.specs.Call.{Call, heapRead, sharedRead, report}
+use Rattle.record.specs.declared.Handle.{Handle}
+use Rattle.record.specs.Call.{Call, create, start, yield, exit, heapWrite, heapRead, sharedWrite, sharedRead, attest, check, protect, retrieve, report}
 use Rattle.record.specs.Read.{Reading, refused, whole, read}
-use Rattle.ideal.specs.State.{State, Move, fresh, heapAt, ownPart, bytesUsed}
-use Rattle.ideal.specs.Step.{tests, refusal, beyond, effect, number, shown, refuse, refusedAnswer, accepted, settle, step, onReading, stepOn}
+use Rattle.ideal.specs.State.{State, Move, writes, fresh, heapAt, ownPart, bytesUsed}
+use Rattle.ideal.specs.Step.{found, valueIn, tests, refusal, beyond, protected, move, apply, effect, number, shown, refuse, refusedAnswer, accepted, settle, step, onReading, stepOn}
 use Rattle.ideal.specs.Tables.{Tables, tables, boxRecord, freshTables}
 use Rattle.ideal.specs.Box.{Element, laid, callOn, elementAt, tablesFrom, tablesAfter, tablesBefore, answerAt}
-use Rattle.ideal.specs.History.{added, pastFrom, pastOf, holder, ones, pairs, protects, AsThePast, Shows, HistoryHolds, Accepts, Reports}
+use Rattle.ideal.specs.Refusals.{ownBytes}
+use Rattle.ideal.specs.History.{moveSeen, added, pastFrom, pastOf, holder, ones, pairs, protects, AsThePast, Shows, HistoryHolds, Accepts, Reports}
 use Rattle.ideal.proofs.Accepts.{Accepted, accepted-of}
 use Rattle.lists.proofs.Bools.{by-cases}
 use Rattle.ideal.proofs.Chain.{failed, passed}
 use Rattle.ideal.specs.Valid.{Valid}
-use Rattle.ideal.proofs.Kept.{busy, own-size}
-use Rattle.ideal.proofs.Laid.{sound-tables, stepElement, valid-fresh, valid-step, fresh-tables, call-is}
+use Rattle.ideal.proofs.Does.{busy, own-size, attest-passed, protect-passed, does}
+use Rattle.ideal.proofs.Laid.{sound-tables, stepElement, fresh-tables, call-is}
+use Rattle.ideal.proofs.Kept.{valid-fresh, valid-effect, valid-step}
 use Rattle.ideal.proofs.Hosted.{logged-is, escrowed-is}
 use Rattle.ideal.proofs.Memory.{part-at, flat-at, taken-at, ones-taken, bits-occupied}
-use Rattle.ideal.proofs.OwnHeap.{sized}
+use Rattle.ideal.proofs.OwnHeap.{sized, own-bytes, written-stands}
 use Rattle.ideal.proofs.Table.{part-length}
 use Rattle.ideal.proofs.Past.{StateAsPast, fresh-past, past-kept}
-use Rattle.ideal.proofs.ByKind.{does, event-is}
+
+-- ---- the move of each kind, as the tables before and after it tell
+
+retrieved : (s : State) (i o : ℕ) (a : Handle) → Valid s → refusal s (retrieve i o a) ≡ 0
+    → ownBytes (tables (effect s (retrieve i o a))) o (number s (retrieve i o a)) ≡ valueIn (found s i a)
+unfolding refusal tests beyond effect move apply number
+retrieved s i o a k r =
+    let v = valueIn (found s i a) in
+    let g = busy s k (failed 3 _ _ r) in
+    let f = ltb-false 256 (o + length v) (failed 10 _ _ (passed 9 _ _ (passed 8 _ _ (passed 3 _ _ r)))) in
+    own-bytes (effect s (retrieve i o a)) (valid-effect s (retrieve i o a) k r) g o (length v) f ∙ written-stands s k g o v f
+
+pub event-is : (s : State) (c : Call) → Valid s → refusal s c ≡ 0
+    → moveSeen (tables s) (tables (effect s c)) (number s c) c ≡ move s c
+unfolding moveSeen move number protected tables boxRecord
+event-is s (create p i) k r = refl
+event-is s (start p) k r = refl
+event-is s yield k r = refl
+event-is s exit k r = refl
+event-is s (heapWrite p o v) k r =
+    unfold refusal tests in
+    ap (λ q. writes q o v) (eqb-true p (s .running) (not-false _ (failed 7 _ _ (passed 5 _ _ (passed 3 _ _ r)))))
+event-is s (heapRead p o n) k r = refl
+event-is s (sharedWrite o v) k r = refl
+event-is s (sharedRead o n) k r = refl
+event-is s (attest o n) k r =
+    let a = attest-passed s o n k r in rw (own-bytes s k (a .runs) o n (a .fits))
+event-is s (check i g v) k r = refl
+event-is s (protect i o n d) k r =
+    let a = protect-passed s i o n d k r in rw (own-bytes s k (a .runs) o n (a .fits))
+event-is s (retrieve i o a) k r = ap (writes (s .running) o) (retrieved s i o a k r)
+event-is s report k r = refl
 
 -- ---- the tables of a state are as the past says
 

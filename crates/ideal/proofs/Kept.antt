@@ -1,6 +1,7 @@
--- A fresh state is valid, and each move of an accepted call keeps a state valid. Assumes nothing.
-use Prim.Native.Nat.{ℕ, _+_, _≤_, _<_}
-use mathlib.Core.Path.{_≡_, refl, sym, ap, _∙_}
+-- A fresh box is sound, and a call on a sound box ends in a sound box: a fresh state is valid, and each move of an accepted
+-- call keeps a state valid. Assumes nothing.
+use Prim.Native.Nat.{ℕ, zero, suc, _+_, _≤_, _<_}
+use mathlib.Core.Path.{_≡_, refl, sym, ap, _∙_, subst}
 use mathlib.Core.Bool.{Bool, true, false, not, _&&_}
 use mathlib.Core.List.{List, [], _∷_, _++_}
 use native.Mathlib.Omega.{arith}
@@ -10,17 +11,23 @@ use lib.Dec.{eqb}
 use borrow.Author.Tests.{ltb-false, eqb-true, eqb-false, eq-eqb, ne-eqb, le-leb}
 use Rattle.fnv.specs.Fnv.{tagOf}
 use Rattle.record.specs.Call.{Call}
-use Rattle.ideal.specs.State.{Entry, Logged, Escrowed, State, Move, cleared, fresh, heapAt, caller, ownPart, any, every, sameBytes, bytesUsed}
-use Rattle.ideal.specs.Step.{isPair, paired, pairOf, full, withPair, hasHandle, protected, apply}
+use Rattle.record.specs.Read.{Reading, refused, whole, read}
+use Rattle.ideal.specs.State.{Entry, Logged, Escrowed, State, Move, empties, cleared, fresh, heapAt, caller, ownPart, any, every, sameBytes, bytesUsed}
+use Rattle.ideal.specs.Step.{isPair, paired, pairOf, full, withPair, hasHandle, refusal, protected, apply, effect, refuse, accepted, settle, step, onReading, stepOn}
+use Rattle.ideal.specs.Tables.{tables, stateOf}
 use Rattle.ideal.specs.Soundness.{differ, samePair, sameHandle, rightTag}
+use Rattle.ideal.specs.Box.{Element, laid, callOn}
+use Rattle.ideal.specs.Valid.{Valid}
+use Rattle.ideal.specs.Layouts.{Sound, StatesAgree, StaysSound, FreshBox}
 use Rattle.lists.proofs.Bools.{by-cases, and-true, and-other, or-false-left, or-false-right, not-is}
 use Rattle.lists.proofs.Lists.{every-more}
 use Rattle.ideal.proofs.Lists.{bytes-more, differ-more}
-use Rattle.ideal.proofs.Free.{free-handle, handle-size}
-use Rattle.ideal.proofs.Does.{Does, does-nothing, does-take, does-activate, does-empty, does-write, does-share, does-log, does-escrow}
-pub use Rattle.ideal.proofs.Does.{busy, own-size}
-use Rattle.ideal.specs.Valid.{Valid}
 use Rattle.ideal.proofs.Entries.{goodLogged, goodEscrowed, isShort, Good, LogGood, log-of, escrow-of, Places, valid, places-of}
+use Rattle.ideal.proofs.Facts.{output-size}
+use Rattle.ideal.proofs.Laid.{state-tables, sound-tables, valid-sound, tables-state, fresh-tables, stepElement, call-is}
+use Rattle.ideal.proofs.Does.{Does, does-nothing, does-take, does-activate, does-empty, does-write, does-share, does-log, does-escrow, does}
+pub use Rattle.ideal.proofs.Does.{busy, own-size}
+use Rattle.ideal.proofs.Handles.{in-no-row, carries-length}
 
 -- ---- places
 
@@ -134,12 +141,17 @@ log-more l i v n k z e m h =
 
 -- ---- each move
 
+-- the place that an exit empties has a heap of zeros
+valid-exit : {s : State} → Valid s → s .running < 16 → Valid (apply s (empties (s .running)))
+unfolding apply
+valid-exit {s} k h = valid _ (exited (places-of k) h) (k .shared) (log-of k) (escrow-of k)
+
 pub valid-apply : {s : State} {c : Call} {m : Move} → Valid s → Does s c m → Valid (apply s m)
 unfolding apply protected goodEscrowed
 valid-apply k does-nothing = k
 valid-apply k (does-take h z n) = valid _ (created (places-of k) _ _ h n) (k .shared) (log-of k) (escrow-of k)
 valid-apply k (does-activate h n) = valid _ (now-runs (places-of k) _ h n) (k .shared) (log-of k) (escrow-of k)
-valid-apply k (does-empty h) = valid _ (exited (places-of k) h) (k .shared) (log-of k) (escrow-of k)
+valid-apply k (does-empty h) = valid-exit k h
 valid-apply {s} k (does-write {o = o} {v = v} w h f) =
     let n = length-sets (heapAt s (s .running)) o v ∙ k .sizes (s .running) h in
     valid _ (filled (places-of k) h _ n) (k .shared) (log-of k) (escrow-of k)
@@ -153,12 +165,11 @@ valid-apply {s} k (does-log {o = o} {n = n} a) =
 valid-apply {s} k (does-escrow {i = i} {o = o} {n = n} {d = d} a) =
     let f = a .fits in
     let size = own-size s o n k (a .runs) f in
-    let few = k .escrow .few in
     let good : goodEscrowed (protected s i o n d) ≡ true =
     and-true (not (eqb (caller s) 0)) _ (not-is _ (ne-eqb _ _ (k .live (a .runs))))
     (and-true (not (eqb i 0)) _ (not-is _ (ne-eqb i 0 (a .named)))
-    (eq-eqb _ _ (handle-size n d (s .escrow) few (a .small) ∙ sym size))) in
-    let new = new-handle (protected s i o n d) (s .escrow) (free-handle n d (s .escrow) few (a .small)) in
+    (eq-eqb _ _ (carries-length s i o n d k a ∙ sym size))) in
+    let new = new-handle (protected s i o n d) (s .escrow) (in-no-row s i o n d k a) in
     valid _ (places-of k) (k .shared) (log-of k) (good-more _ n (escrow-of k) size (omega arith) (a .room) good new)
 
 -- ---- a fresh box
@@ -182,3 +193,50 @@ valid-fresh =
     (length-replicate {A = ℕ} 1024 0)
     no-entries
     no-entries
+
+-- ---- one element on the state
+
+pub valid-effect : (s : State) (c : Call) → Valid s → refusal s c ≡ 0 → Valid (effect s c)
+unfolding effect
+valid-effect s c k r = valid-apply k (does s c k r)
+
+valid-settle : (n : ℕ) (s : State) (c : Call) (used : ℕ) → Valid s → refusal s c ≡ n → Valid (settle n s c used .state)
+unfolding settle accepted refuse
+valid-settle zero s c used k r = valid-effect s c k r
+valid-settle (suc n) s c used k r = k
+
+valid-reading : (s : State) (r : Reading) → Valid s → Valid (onReading s r .state)
+unfolding onReading step refuse
+valid-reading s (refused code number) k = k
+valid-reading s (whole c used) k = valid-settle (refusal s c) s c used k refl
+
+pub valid-on : (s : State) (bytes : List ℕ) → Valid s → Valid (stepOn s bytes .state)
+unfolding stepOn
+valid-on s bytes k = valid-reading s (read bytes) k
+
+pub valid-step : (s : State) (e : Element) → Valid s → Valid (stepElement s e .state)
+unfolding stepElement refuse
+valid-step s e k = by-cases (eqb (e .outputSize) 1024) (λ x. rw x (valid-on s (e .bytes) k)) (λ x. rw x k)
+
+-- ---- the statements
+
+pub states-agree : StatesAgree
+states-agree t n bytes h = state-tables (stepOn (stateOf t) bytes .state) (valid-on (stateOf t) bytes (valid-sound t n h))
+
+pub stays-sound : StaysSound
+unfolding laid
+stays-sound t e h =
+    let k = valid-sound t (e .outputSize) h in
+    let s = stepElement (stateOf t) e .state in
+    let is : callOn t e .tables ≡ tables s =
+    ap (λ x. callOn x e .tables) (sym (tables-state t (e .outputSize) h)) ∙ ap (λ r. r .tables) (call-is (stateOf t) e k) in
+    subst (Sound (callOn t e .tables)) (sym (output-size t (e .outputSize) (h .sizes)))
+    (rw is (sound-tables s (valid-step (stateOf t) e k)))
+
+pub fresh-box : FreshBox
+fresh-box =
+    record {
+      is = fresh-tables;
+      stands = ap stateOf fresh-tables ∙ state-tables fresh valid-fresh;
+      sound = rw fresh-tables (sound-tables fresh valid-fresh);
+    }

@@ -1,23 +1,21 @@
 -- The laws by which proofs go between a state and its tables: the tables of a valid state are sound and stand for it, and
 -- sound tables stand for a valid state and are its tables. Assumes nothing.
-use Prim.Native.Nat.{ℕ, zero, suc, _≤_, _<_}
-use mathlib.Core.Path.{_≡_, refl, sym, ap, _∙_, subst}
+use Prim.Native.Nat.{ℕ, _≤_, _<_}
+use mathlib.Core.Path.{_≡_, refl, sym, ap, _∙_}
 use mathlib.Core.Bool.{Bool, true, false, not, _&&_, cond}
 use mathlib.Core.List.{List}
 use native.Mathlib.Omega.{arith}
 use lib.ListN.{getD, take, replicate}
 use lib.Dec.{eqb, ltb}
 use borrow.Author.Tests.{eqb-true, eqb-false, ltb-true, ne-eqb, lt-ltb, not-true}
-use Rattle.record.specs.Call.{Call}
-use Rattle.record.specs.Read.{Reading, refused, whole, read}
 use Rattle.ideal.specs.declared.BoxRecord.{BoxRecord}
 use Rattle.ideal.specs.declared.Used.{Used}
 use Rattle.ideal.specs.State.{Entry, State, cleared, fresh, every, bytesUsed}
-use Rattle.ideal.specs.Step.{Stepped, refusal, refuse, accepted, settle, step, onReading, stepOn}
+use Rattle.ideal.specs.Step.{Stepped, refuse, stepOn}
 use Rattle.ideal.specs.Tables.{Tables, RowsOf, logTable, escrowTable, padded, valuesOf, rowsFrom, rowsOf, entriesOf, takenMap, flat, chunks, boxRecord, tables, usedLog, usedEscrow, stateOf, freshTables}
 use Rattle.ideal.specs.Soundness.{sizesRight, runningTaken, short, hasIdentity, hasIdentities, rightTag, differ, samePair, sameHandle, sound}
 use Rattle.ideal.specs.Box.{Element, laid, callOn, unsound}
-use Rattle.ideal.specs.Layouts.{Sound, LayoutsAgree, StatesAgree, StaysSound, FreshBox}
+use Rattle.ideal.specs.Layouts.{Sound, LayoutsAgree}
 use Rattle.lists.proofs.Bools.{by-cases, and-left, and-right, and-true, or-true-left, or-true-right, not-is}
 use Rattle.ideal.specs.Valid.{Valid}
 use Rattle.ideal.proofs.Entries.{Good, LogGood, EscrowGood, log-of, escrow-of, Places, valid}
@@ -25,8 +23,6 @@ use Rattle.ideal.proofs.Table.{Lawful, Stands, held, used-rows, entries
 use Rattle.ideal.proofs.Heaps.{flat-length, chunks-flat, flat-chunks, chunks-length, chunks-sized, flat-replicate, cleared-is, empty-zero, zero-empty}
 use Rattle.ideal.proofs.OwnHeap.{sized}
 use Rattle.ideal.proofs.Facts.{short-tests, log-tests, escrow-tests, Facts, facts, output-size, facts-sound}
-pub use Rattle.ideal.proofs.Kept.{valid-fresh}
-pub use Rattle.ideal.proofs.ByKind.{valid-effect}
 
 -- ---- the tables of a valid state
 
@@ -185,6 +181,9 @@ module _ (t : Tables) (n : ℕ) (h : Sound t n) where
         escrowValues = values-back escrow-lawful (f .escrow) i;
       }
 
+pub layouts-agree : LayoutsAgree
+layouts-agree = tables-state
+
 -- ---- a fresh box
 
 pub fresh-tables : freshTables ≡ tables fresh
@@ -202,27 +201,9 @@ fresh-tables = λ i.
 
 -- ---- one element on the state
 
-valid-settle : (n : ℕ) (s : State) (c : Call) (used : ℕ) → Valid s → refusal s c ≡ n → Valid (settle n s c used .state)
-unfolding settle accepted refuse
-valid-settle zero s c used k r = valid-effect s c k r
-valid-settle (suc n) s c used k r = k
-
-valid-reading : (s : State) (r : Reading) → Valid s → Valid (onReading s r .state)
-unfolding onReading step refuse
-valid-reading s (refused code number) k = k
-valid-reading s (whole c used) k = valid-settle (refusal s c) s c used k refl
-
-pub valid-on : (s : State) (bytes : List ℕ) → Valid s → Valid (stepOn s bytes .state)
-unfolding stepOn
-valid-on s bytes k = valid-reading s (read bytes) k
-
 -- 15 where the output buffer isn't of its size
 unfoldable pub stepElement : State → Element → Stepped
 stepElement s e = cond (eqb (e .outputSize) 1024) (stepOn s (e .bytes)) (refuse s 15 0 0)
-
-pub valid-step : (s : State) (e : Element) → Valid s → Valid (stepElement s e .state)
-unfolding stepElement refuse
-valid-step s e k = by-cases (eqb (e .outputSize) 1024) (λ x. rw x (valid-on s (e .bytes) k)) (λ x. rw x k)
 
 pub call-is : (s : State) (e : Element) → Valid s → callOn (tables s) e ≡ laid (stepElement s e)
 unfolding callOn stepElement laid unsound refuse
@@ -237,29 +218,3 @@ call-is s e k =
     let z : sizesRight (tables s) n ≡ false =
     by-cases (sizesRight (tables s) n) (λ y. absurd (eqb-false n 1024 x (output-size (tables s) n y))) (λ y. y) in
     rw (x, z))
-
--- ---- the statements of specs/Layouts.antt
-
-pub layouts-agree : LayoutsAgree
-layouts-agree = tables-state
-
-pub states-agree : StatesAgree
-states-agree t n bytes h = state-tables (stepOn (stateOf t) bytes .state) (valid-on (stateOf t) bytes (valid-sound t n h))
-
-pub stays-sound : StaysSound
-unfolding laid
-stays-sound t e h =
-    let k = valid-sound t (e .outputSize) h in
-    let s = stepElement (stateOf t) e .state in
-    let is : callOn t e .tables ≡ tables s =
-    ap (λ x. callOn x e .tables) (sym (tables-state t (e .outputSize) h)) ∙ ap (λ r. r .tables) (call-is (stateOf t) e k) in
-    subst (Sound (callOn t e .tables)) (sym (output-size t (e .outputSize) (h .sizes)))
-    (rw is (sound-tables s (valid-step (stateOf t) e k)))
-
-pub fresh-box : FreshBox
-fresh-box =
-    record {
-      is = fresh-tables;
-      stands = ap stateOf fresh-tables ∙ state-tables fresh valid-fresh;
-      sound = rw fresh-tables (sound-tables fresh valid-fresh);
-    }

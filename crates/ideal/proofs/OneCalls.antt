@@ -32,12 +32,10 @@ use Rattle.ideal.proofs.Memory.{ones-taken}
 use Rattle.ideal.proofs.OwnHeap.{sized, own-bytes, own-written}
 use Rattle.ideal.proofs.HeapBytes.{flat-set}
 use Rattle.ideal.proofs.CallNumbers.{pair-rows, found-row}
-use Rattle.ideal.proofs.Laid.{state-tables, call-is}
-use Rattle.ideal.proofs.Facts.{output-size}
-use Rattle.ideal.proofs.Runs.{accepted-call}
+use Rattle.ideal.proofs.Laid.{state-tables}
 use Rattle.ideal.proofs.Numbers.{each-number, refusals-alter-nothing}
-use Rattle.ideal.proofs.Accepts.{sound-of, on-state, accepted-answers}
-use Rattle.ideal.proofs.Accurate.{handle-is-first-free}
+use Rattle.ideal.proofs.Accepts.{on-state, accepted-answers}
+use Rattle.ideal.proofs.FirstFree.{handle-is-first-free}
 
 -- ---- the map of taken places
 
@@ -239,28 +237,18 @@ module _ (s : State) (k : Valid s) where
 
 -- ---- the promise, of the definition
 
-left-by : (t : Tables) (e : Element) (c : Call) (used : ℕ) → read (e .bytes) ≡ whole c used → callOn t e .answer .code ≡ 0
-    → callOn t e .tables ≡ tables (effect (stateOf t) c)
-unfolding laid accepted
-left-by t e c used y z =
-    let ok = sound-of t e z in
-    let s = stateOf t in
-    let o = on-state t e c used y z in
-    ap (λ x. callOn x e .tables) (sym (o .back)) ∙ ap (λ r. r .tables) (call-is s e (o .valid))
-    ∙ ap (λ r. tables (r .state)) (accepted-call s e c used y (output-size t (e .outputSize) (ok .sizes)) (o .call .passes))
-
 pub does : (t : Tables) (e : Element) (c : Call) (used : ℕ) → read (e .bytes) ≡ whole c used → callOn t e .answer .code ≡ 0
     → Done t c (callOn t e)
-unfolding accepted
+unfolding laid accepted
 does t e c used y z =
     let s = stateOf t in
     let o = on-state t e c used y z in
-    let n : callOn t e .answer .number ≡ number s c = ap (λ a. a .number) (o .call .is) in
+    let n : callOn t e .answer .number ≡ number s c = ap (λ r. r .answer .number) (o .is) in
     record {
-      leaves = left-by t e c used y z ∙ leaves-is s (o .valid) c (o .call .passes) ∙ rw (o .back, n);
+      leaves = ap (λ r. r .tables) (o .is) ∙ leaves-is s (o .valid) c (o .passes) ∙ rw (o .back, n);
       counted = λ m q. n ∙ counted s (o .valid) c m (ap (λ x. countedNumber x c) (o .back) ∙ q);
       shows =
-          ap (λ a. a .shown) (o .call .is) ∙ shows-is s (o .valid) c (o .call .passes) ∙ ap (λ x. shows x c) (o .back);
+          ap (λ r. r .answer .shown) (o .is) ∙ shows-is s (o .valid) c (o .passes) ∙ ap (λ x. shows x c) (o .back);
     }
 
 pub one-call : OneCall callOn

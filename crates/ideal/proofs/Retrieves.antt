@@ -2,30 +2,87 @@
 use Prim.Native.Nat.{ℕ, suc, _+_, _≤_, _<_}
 use mathlib.Core.Path.{_≡_, refl, sym, ap, _∙_}
 use mathlib.Core.Logic.{_↔_}
-use mathlib.Core.Bool.{true, false, cond}
+use mathlib.Core.Bool.{Bool, true, false, _&&_, cond}
 use mathlib.Core.List.{List}
 use mathlib.Core.Option.{Option, none, some}
 use native.Mathlib.Omega.{arith}
 use lib.ListN.{length, List·getD-eq-default}
-use lib.Dec.{ltb}
+use lib.Dec.{eqb, ltb}
 use borrow.Author.Tests.{eqb-true, eqb-false, eq-eqb, ne-eqb, ltb-true, ltb-false, lt-ltb, le-ltb}
 use Rattle.record.specs.declared.Handle.{Handle}
 use Rattle.record.specs.Call.{Call, protect, retrieve}
 use Rattle.record.specs.Read.{whole, read}
-use Rattle.ideal.specs.State.{Escrowed, State, caller, ownPart, writes}
-use Rattle.ideal.specs.Step.{found, absent, valueIn, idle, beyond, tests, firstHolding, refusal, move, apply, effect, number}
+use Rattle.ideal.specs.State.{Escrowed, State, caller, ownPart, writes, any, sameBytes}
+use Rattle.ideal.specs.Step.{isEscrowed, found, hasHandle, absent, valueIn, idle, beyond, tests, firstHolding, refusal, move, apply, effect, number}
 use Rattle.ideal.specs.Tables.{tables}
+use Rattle.ideal.specs.Soundness.{sameHandle}
 use Rattle.ideal.specs.Box.{Element, callOn, elementAt, tablesBefore, answerAt}
 use Rattle.ideal.specs.Refusals.{ownBytes}
-use Rattle.ideal.specs.Accuracy.{ProtectsAt, Sized, Runs, ProtectedBefore, HandsOut, RetrieveAt, withOwnBytes}
-use Rattle.lists.proofs.Bools.{by-cases}
+use Rattle.ideal.specs.Accuracy.{ProtectsAt, Sized, Runs, ProtectedBefore, HandsOut, RetrieveAt, withOwnBytes, RetrieveIsAccurate}
+use Rattle.lists.proofs.Bools.{by-cases, and-left, and-assoc}
+use Rattle.lists.proofs.Lists.{same-bytes, same-bytes-refl}
 use Rattle.ideal.specs.Valid.{Valid}
-use Rattle.ideal.proofs.Kept.{busy}
+use Rattle.ideal.proofs.Unique.{finds, found-any}
+use Rattle.ideal.proofs.Entries.{escrow-of}
+use Rattle.ideal.proofs.Kept.{any-same}
 use Rattle.ideal.proofs.OwnHeap.{own-written, written-stands}
 use Rattle.ideal.proofs.Runs.{stateBefore, valid-before, tables-before, running-before, caller-before, own-before, sized-at, code-at, accepted-at, accepts-at, Accepted, number-at, state-after}
-use Rattle.ideal.proofs.Does.{protect-passed}
-use Rattle.ideal.proofs.Escrows.{Finds, found-since}
+use Rattle.ideal.proofs.Does.{busy, protect-passed}
+use Rattle.ideal.proofs.Escrows.{isHeld, held-since}
 use Rattle.ideal.proofs.Checks.{same-cond}
+
+-- ---- what a retrieve finds
+
+-- the running program finds v from the source under the handle
+record Finds (s : State) (source : ℕ) (h : Handle) (v : List ℕ) : Type 0 where
+  entry : Escrowed
+  is : found s source h ≡ some entry
+  value : entry .value ≡ v
+
+like : (h : Handle) (i r : ℕ) (a b : Escrowed) → isEscrowed h i r a ≡ true → isEscrowed h i r b ≡ true
+    → sameHandle a b ≡ true
+unfolding isEscrowed sameHandle hasHandle
+like h i r a b x y =
+    let m = eqb-true (a .key .handle .0) (h .0) (and-left _ _ x) in
+    let n = eqb-true (b .key .handle .0) (h .0) (and-left _ _ y) in
+    eq-eqb _ _ (n ∙ sym m)
+
+-- what it looks for, with this value, is what the escrow holds for it
+sought-held : (h : Handle) (i r : ℕ) (v : List ℕ) (l : List Escrowed)
+    → any (λ e. isEscrowed h i r e && sameBytes (e .value) v) l ≡ any (isHeld h i r v) l
+unfolding isEscrowed isHeld
+sought-held h i r v l =
+    any-same _ _ l
+    (λ e. and-assoc (eqb (e .key .handle .0) (h .0)) _ _ ∙ ap (λ b. eqb (e .key .handle .0) (h .0) && b) (and-assoc (eqb (e .key .source) i) _ _))
+
+held-found : (s : State) (i : ℕ) (h : Handle) (v : List ℕ) → Valid s
+    → (any (isHeld h i (caller s) v) (s .escrow) ≡ true) ↔ Finds s i h v
+unfolding found
+held-found s i h v valid = rw (← sought-held h i (caller s) v (s .escrow)) (to, from)
+  where
+    p : Escrowed → Bool
+    p = isEscrowed h i (caller s)
+
+    q : Escrowed → Bool
+    q = λ e. sameBytes (e .value) v
+
+    to : any (λ e. p e && q e) (s .escrow) ≡ true → Finds s i h v
+    to x =
+        let r = finds sameHandle p q (like h i (caller s)) (s .escrow) (escrow-of valid .apart) x in
+        record { entry = r .element; is = r .is; value = same-bytes _ _ (r .passes) }
+
+    from : Finds s i h v → any (λ e. p e && q e) (s .escrow) ≡ true
+    from f = found-any p q (s .escrow) (f .entry) (f .is) (rw (f .value) (same-bytes-refl v))
+
+-- it is found where an earlier accepted protect escrowed it for the running program
+found-since : (es : List Element) (k i : ℕ) (h : Handle) (v : List ℕ)
+    → Finds (stateBefore es k) i h v ↔ ProtectedBefore callOn es k i h v
+found-since es k i h v =
+    let held = held-found (stateBefore es k) i h v (valid-before es k) in
+    let since = held-since es h i (caller (stateBefore es k)) v k in
+    rw (caller-before es k) (λ f. since .0 (held .1 f), λ x. held .0 (since .1 x))
+
+-- ---- the call at an index
 
 -- who protects has an identity, and so has whom it is for
 record Named (i r : ℕ) : Type 0 where
@@ -229,3 +286,6 @@ module _ (es : List Element) (k i o : ℕ) (h : Handle) (used : ℕ)
       let r = was-ready s i o h 0 (a .passes) (λ z. omega arith) (λ z. omega arith) in
       let g = got r (a .passes) in
       record { value = g .value; is = hands (g .value) a r (g .finds) (g .fits) }
+
+pub retrieve-is-accurate : RetrieveIsAccurate callOn
+retrieve-is-accurate = retrieve-at

@@ -1,30 +1,184 @@
--- Demand 3: two runs of the box differ only in what the group holds.
-use Prim.Native.Nat.{ℕ, _+_, _≤_, _<_}
+-- Demand 3: two runs of the box differ only in what the group holds. First of any secrets: one call, and one element, on two
+-- states that differ in secrets alone; then of what a group holds.
+use Prim.Native.Nat.{ℕ, zero, suc, _+_, _≤_, _<_}
 use mathlib.Core.Path.{_≡_, refl, sym, ap, _∙_, subst, subst₂}
-use mathlib.Core.Bool.{Bool, true, false, _&&_}
+use mathlib.Core.Bool.{Bool, true, false, _&&_, cond}
 use mathlib.Core.List.{List, []}
 use native.Mathlib.Omega.{arith}
 use lib.ListN.{length, getD, List·getD-eq-default}
 use lib.Dec.{eqb, ltb}
-use borrow.Author.Tests.{ltb-true, ltb-false}
-use Rattle.record.specs.Call.{Call}
-use Rattle.record.specs.Read.{whole, read}
-use Rattle.ideal.specs.State.{EscrowKey, Escrowed, State, fresh, caller, part, ownPart}
-use Rattle.ideal.specs.Step.{refusal, protected, accepted, settle, step, onReading, stepOn}
+use borrow.Author.Tests.{eqb-true, ltb-true, ltb-false, not-false}
+use Rattle.record.specs.declared.Draw.{Draw}
+use Rattle.record.specs.Call.{Call, create, start, yield, exit, heapWrite, heapRead, sharedWrite, sharedRead, attest, check, protect, retrieve, report}
+use Rattle.record.specs.Read.{Reading, refused, whole, read}
+use Rattle.ideal.specs.State.{EscrowKey, Escrowed, State, fresh, identityAt, caller, part, ownPart}
+use Rattle.ideal.specs.Step.{pairOf, idle, vacant, beyond, firstHolding, tests, refusal, protected, move, effect, number, shown, Answer, Stepped as Outcome, refusedAnswer, refuse, accepted, settle, step, onReading, stepOn}
 use Rattle.ideal.specs.Tables.{Tables, escrowTable, entryOf, rowsFrom, rowsOf, boxRecord, tables, freshTables}
 use Rattle.ideal.specs.Box.{Element, laid, callOn}
 use Rattle.ideal.specs.Refusals.{ownBytes}
-use Rattle.ideal.specs.Secrecy.{inside, groupRuns, groupToGroup, AlikeAt, same, other-bytes, AgreeOutside, PremiseAt, noneExempt, Secrecy}
-use Rattle.lists.proofs.Bools.{by-cases, and-false, and-other, clash}
-use Rattle.ideal.proofs.Does.{protect-passed}
+use Rattle.ideal.specs.Secrecy.{inside, groupRuns, groupToGroup, AlikeAt, same, other-bytes, EqualAt, AgreeOutside, PremiseAt, noneExempt, Secrecy}
 use Rattle.ideal.specs.Valid.{Valid}
-use Rattle.ideal.proofs.Laid.{stepElement, valid-fresh, valid-step, fresh-tables, call-is}
+use Rattle.lists.proofs.Bools.{by-cases, and-false, and-other, clash}
+use Rattle.ideal.proofs.Chain.{failed, passed}
+use Rattle.ideal.proofs.Does.{protect-passed}
+use Rattle.ideal.proofs.Laid.{stepElement, fresh-tables, call-is}
+use Rattle.ideal.proofs.Kept.{valid-fresh, valid-step}
 use Rattle.ideal.proofs.Hosted.{heap-is, escrowed-is}
 use Rattle.ideal.proofs.OwnHeap.{own-bytes}
-use Rattle.ideal.proofs.TwoEscrows.{SameEscrow, no-entries, entry, same-count, same-bytes-used, same-at}
-use Rattle.ideal.proofs.TwoStates.{Secrets, SameBut, same-state, other-call, NoneTold}
-use Rattle.ideal.proofs.TwoSteps.{Both, both-element, both-calls}
+use Rattle.ideal.proofs.TwoEscrows.{SameEntry, SameEscrow, no-entries, entry, same-count, same-bytes-used, same-at, same-full, same-handle}
+use Rattle.ideal.proofs.TwoStates.{Secrets, SameBut, same-state, AlikeCalls, same-call, other-call, NoneTold, same-caller, same-idle, same-vacant, same-size, same-found, same-own, SameMove, same-nothing, same-take, same-activate, same-empty, same-write, same-share, same-log, same-escrows, same-apply}
 use Rattle.ideal.proofs.TwoRuns.{Preserved, Stepped, secrecy-of}
+
+-- ---- one call on two states that differ in secrets alone
+
+-- the same refusal; and of an accepted call the same number, the same bytes shown where the running heap is open, and moves
+-- that differ in secrets alone
+pub record SameCall (z : Secrets) (s t : State) (c d : Call) : Type 0 where
+  pub refuses : refusal s c ≡ refusal t d
+  pub answers : refusal s c ≡ 0 → number s c ≡ number t d
+  pub shows : z .heap (s .running) (caller s) ≡ false → shown s c ≡ shown t d
+  pub moves : refusal s c ≡ 0 → SameMove z s t (move s c) (move t d)
+
+module _ (z : Secrets) {s t : State} (k : SameBut z s t) where
+  known-attest : (o n : ℕ) → NoneTold z s t (attest o n) → beyond 256 o n ≡ false → ownPart s o n ≡ ownPart t o n
+  unfolding beyond
+  known-attest o n a e =
+      by-cases (z .heap (s .running) (caller s)) (λ g. a .attests g o n refl (ltb-false 256 (o + n) e)) (λ g. same-own z k o n g)
+
+  accepted-attest : (o n : ℕ) → NoneTold z s t (attest o n) → refusal s (attest o n) ≡ 0
+      → pairOf (caller s) (ownPart s o n) ≡ pairOf (caller t) (ownPart t o n)
+  unfolding refusal tests
+  accepted-attest o n a r = rw (same-caller z k, known-attest o n a (failed 10 _ _ (passed 3 (idle s) _ r)))
+
+  accepted-protect : (i o n : ℕ) (d : Draw) → NoneTold z s t (protect i o n d) → refusal s (protect i o n d) ≡ 0
+      → SameEntry (z .value) (protected s i o n d) (protected t i o n d)
+  unfolding protected
+  accepted-protect i o n d a r =
+      record {
+        key = λ m. record { source = same-caller z k m; recipient = i; handle = same-handle (z .value) n d (k .escrow) m };
+        size = same-size z k o n;
+        value = λ e.
+            by-cases (z .heap (s .running) (caller s)) (λ g. a .protects g i o n d refl e r) (λ g. same-own z k o n g);
+      }
+
+  same-attest : (o n : ℕ) → NoneTold z s t (attest o n) → refusal s (attest o n) ≡ refusal t (attest o n)
+  unfolding refusal tests firstHolding
+  same-attest o n a =
+      by-cases (beyond 256 o n) (λ e. rw (same-idle z k, e))
+      (λ e. rw (same-idle z k, same-caller z k, known-attest o n a e, k .log))
+
+  -- a call that answers the same whatever it may see
+  plain : {c d : Call} → refusal s c ≡ refusal t d → number s c ≡ number t d → shown s c ≡ shown t d
+      → (refusal s c ≡ 0 → SameMove z s t (move s c) (move t d)) → SameCall z s t c d
+  plain r n v m = record { refuses = r; answers = λ _. n; shows = λ _. v; moves = m }
+
+  vacant-create : (p i : ℕ) → refusal s (create p i) ≡ 0 → identityAt s p ≡ 0
+  unfolding refusal tests vacant
+  vacant-create p i r = eqb-true (identityAt s p) 0 (not-false (vacant s p) (failed 6 _ _ (passed 5 (ltb 15 p) _ r)))
+
+  pub same-in-both : {c d : Call} → AlikeCalls z s c d → NoneTold z s t c → SameCall z s t c d
+  unfolding refusal tests number shown move
+  same-in-both (same-call (create p i)) a = plain (rw (same-vacant z k p)) refl refl (λ r. same-take (vacant-create p i r))
+  same-in-both (same-call (start p)) a = plain (rw (same-vacant z k p, same-idle z k)) refl refl (λ r. same-activate)
+  same-in-both (same-call yield) a = plain (rw (same-idle z k)) refl refl (λ r. same-activate)
+  same-in-both (same-call exit) a = plain (rw (same-idle z k)) refl refl (λ r. same-empty (k .running))
+  same-in-both (same-call (heapWrite p o v)) a =
+      plain (rw (same-idle z k, k .running)) refl refl (λ r. same-write (k .running) refl (λ _. refl))
+  same-in-both (same-call (heapRead p o n)) a =
+      record {
+        refuses = rw (same-idle z k, k .running);
+        answers = λ r. refl;
+        shows = same-own z k o n;
+        moves = λ r. same-nothing;
+      }
+  same-in-both (same-call (sharedWrite o v)) a = plain refl refl refl (λ r. same-share)
+  same-in-both (same-call (sharedRead o n)) a = plain refl refl (rw (k .shared)) (λ r. same-nothing)
+  same-in-both (same-call (attest o n)) a =
+      record {
+        refuses = same-attest o n a;
+        answers = λ r. ap (λ e. e .key .tag .0) (accepted-attest o n a r);
+        shows = λ g. refl;
+        moves = λ r. same-log (accepted-attest o n a r);
+      }
+  same-in-both (same-call (check i g v)) a = plain refl (rw (k .log)) refl (λ r. same-nothing)
+  same-in-both (same-call (protect i o n d)) a =
+      plain (rw (same-idle z k, same-full (z .value) n (k .escrow))) (ap (λ h. h .0) (same-handle (z .value) n d (k .escrow))) refl
+      (λ r. same-escrows (accepted-protect i o n d a r))
+  same-in-both (same-call (retrieve i o h)) a =
+      let f = same-found z k i h in
+      plain (rw (same-idle z k, f .absent, f .size)) (f .size) refl
+      (λ r. same-write (k .running) (f .size) (λ g. f .value (a .retrieves g i o h refl r)))
+  same-in-both (same-call report) a =
+      plain refl (rw (k .identities, k .log, same-count (z .value) (k .escrow))) refl (λ r. same-nothing)
+  same-in-both (other-call p o v w g n) a =
+      plain (rw (same-idle z k, k .running, n)) n refl (λ r. same-write (k .running) n (λ h. clash _ g h))
+
+  pub same-effect : {c d : Call} → AlikeCalls z s c d → NoneTold z s t c → refusal s c ≡ 0 → SameBut z (effect s c) (effect t d)
+  unfolding effect
+  same-effect a n r = same-apply z k (same-in-both a n .moves r)
+
+-- ---- one element on both
+
+-- a branch of each side, by the same test
+cond-both : {A : Type 0} (R : A → A → Type 0) (b : Bool) {x y v w : A} → (b ≡ true → R x y) → (b ≡ false → R v w)
+    → R (cond b x v) (cond b y w)
+cond-both R true f g = f refl
+cond-both R false f g = g refl
+
+-- where the first state was s; bytes shown by a program whose heap is secret may differ
+pub record Both (z : Secrets) (s : State) (o p : Outcome) : Type 0 where
+  pub state : SameBut z (o .state) (p .state)
+  pub answer : EqualAt false (z .heap (s .running) (caller s)) (o .answer) (p .answer)
+
+module _ (z : Secrets) {s t : State} (k : SameBut z s t) where
+  both-refuse : (code number used : ℕ) → Both z s (refuse s code number used) (refuse t code number used)
+  unfolding refuse refusedAnswer
+  both-refuse code number used =
+      record { state = k; answer = record { code = λ _. refl; number = λ _. refl; used = refl; shown = λ _. refl } }
+
+  both-settle : (n : ℕ) {c d : Call} (u : ℕ) → AlikeCalls z s c d → NoneTold z s t c → refusal s c ≡ n
+      → Both z s (settle n s c u) (settle n t d u)
+  unfolding settle accepted
+  both-settle zero u a h r =
+      let c = same-in-both z k a h in
+      record {
+        state = same-effect z k a h r;
+        answer = record { code = λ _. refl; number = λ _. c .answers r; used = refl; shown = c .shows };
+      }
+  both-settle (suc n) u a h r = both-refuse (suc n) 0 u
+
+  both-step : {c d : Call} (u : ℕ) → AlikeCalls z s c d → NoneTold z s t c → Both z s (step s c u) (step t d u)
+  unfolding step
+  both-step {c} u a h = rw (← same-in-both z k a h .refuses) (both-settle (refusal s c) u a h refl)
+
+  both-reading : (r : Reading) → ((c : Call) (u : ℕ) → r ≡ whole c u → NoneTold z s t c) → Both z s (onReading s r) (onReading t r)
+  unfolding onReading
+  both-reading (refused code number) h = both-refuse code number 0
+  both-reading (whole c u) h = both-step u (same-call c) (h c u refl)
+
+  module _ (e : Element)
+      (h : eqb (e .outputSize) 1024 ≡ true → (c : Call) (u : ℕ) → read (e .bytes) ≡ whole c u → NoneTold z s t c) where
+    pub both-element : Both z s (stepElement s e) (stepElement t e)
+    unfolding stepElement stepOn
+    both-element =
+        cond-both (λ o p. Both z s o p) (eqb (e .outputSize) 1024) (λ x. both-reading (read (e .bytes)) (h x))
+        (λ _. both-refuse 15 0 0)
+
+    -- two elements that are read whole, to calls that are alike
+    pub both-calls : (f : Element) {c d : Call} (u : ℕ) → AlikeCalls z s c d → e .outputSize ≡ f .outputSize
+        → read (e .bytes) ≡ whole c u → read (f .bytes) ≡ whole d u → Both z s (stepElement s e) (stepElement t f)
+    unfolding stepElement stepOn onReading
+    both-calls f u a n q r =
+        rw (← n, q, r)
+        (cond-both (λ o p. Both z s o p) (eqb (e .outputSize) 1024) (λ x. both-step u a (h x _ u q)) (λ _. both-refuse 15 0 0))
+
+-- where nothing is hidden the answers are the same
+pub all-equal : {hidden : Bool} {a b : Answer} → hidden ≡ false → EqualAt false hidden a b → a ≡ b
+all-equal h x =
+    let c = x .code refl in
+    let n = x .number refl in
+    let v = x .shown h in
+    λ m. record { code = c m; number = n m; used = x .used m; shown = v m }
 
 -- ---- what the group holds
 
@@ -59,9 +213,9 @@ accepted-code s e c u v x y r = ap (λ z. z .answer .code) (call-is s e v) ∙ r
 
 module _ (G : ℕ → Bool) {s t : State} (k : SameBut (held G) s t) (v : Valid s) (w : Valid t) (e : Element)
     (p : PremiseAt callOn G (tables s) (tables t) e) where
-  same-own : (o n : ℕ) → inside G (caller s) ≡ true → o + n ≤ 256 → ownBytes (tables s) o n ≡ ownBytes (tables t) o n
+  same-known : (o n : ℕ) → inside G (caller s) ≡ true → o + n ≤ 256 → ownBytes (tables s) o n ≡ ownBytes (tables t) o n
       → ownPart s o n ≡ ownPart t o n
-  same-own o n g h q =
+  same-known o n g h q =
       let r = runs-below G s v g in
       let a = k .running in
       sym (own-bytes s v r o n h) ∙ q ∙ own-bytes t w (omega arith) o n h
@@ -70,9 +224,9 @@ module _ (G : ℕ → Bool) {s t : State} (k : SameBut (held G) s t) (v : Valid 
   unfolding groupRuns tables boxRecord protected
   told x c u y =
       record {
-        attests = λ g o n q h. same-own o n g h (p .attests g o n u (y ∙ ap (λ z. whole z u) q) h);
+        attests = λ g o n q h. same-known o n g h (p .attests g o n u (y ∙ ap (λ z. whole z u) q) h);
         protects = λ g i o n d q out r.
-            same-own o n g (protect-passed s i o n d v (rw q at r) .fits)
+            same-known o n g (protect-passed s i o n d v (rw q at r) .fits)
             (p .protects g i o n d u (y ∙ ap (λ z. whole z u) q) (and-other _ _ g out) (accepted-code s e c u v x y r));
         retrieves = λ g i o h q r. and-false (inside G i) _ g;
       }

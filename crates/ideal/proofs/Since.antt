@@ -14,8 +14,7 @@ use Rattle.ideal.specs.Box.{Element, elementAt}
 use Rattle.ideal.specs.Accuracy.{Earlier}
 use Rattle.lists.proofs.Bools.{by-cases, clash, or-split, or-true-left, or-true-right}
 use Rattle.ideal.specs.Valid.{Valid}
-use Rattle.ideal.proofs.Does.{Does}
-use Rattle.ideal.proofs.ByKind.{does}
+use Rattle.ideal.proofs.Does.{Does, does}
 use Rattle.ideal.proofs.Runs.{stateBefore, valid-before, Accepted, stays, moves, moved, state-first, state-next, state-after}
 
 module _ {A : Type 0} (Adds : State → Call → Type 0) (entry : (s : State) (c : Call) → Adds s c → A) (test : A → Bool) where

@@ -1,4 +1,4 @@
--- What is proved of the layout and of soundness. The proofs are in proofs/Laid.antt.
+-- What is proved of the layout and of soundness. The proofs are in proofs/Laid.antt and proofs/Kept.antt.
 use Prim.Native.Nat.{ℕ}
 use mathlib.Core.Path.{_≡_}
 use mathlib.Core.Bool.{true}

@@ -1,197 +1,143 @@
 -- What attest and check do to the tables of a valid state is the laid-out step of that state. Assumes nothing.
-use Prim.Native.Nat.{ℕ, zero, suc, _+_, _*_, _≤_, _<_}
+use Prim.Native.Nat.{ℕ, _≤_}
 use mathlib.Core.Path.{_≡_, refl, sym, ap, _∙_}
-use mathlib.Core.Bool.{false, not, _&&_}
-use mathlib.Core.List.{List, [], _∷_, _++_}
+use mathlib.Core.Bool.{false}
+use mathlib.Core.List.{List, []}
 use native.Mathlib.Omega.{arith}
-use lib.ListN.{length}
 use lib.Dec.{eqb}
-use borrow.Author.Tests.{ltb-false}
 use Rattle.fnv.specs.declared.Tag.{Tag}
 use Rattle.fnv.specs.Fnv.{tagOf}
-use Rattle.record.specs.Call.{Call, attest, check}
+use Rattle.record.specs.Call.{attest, check}
 use Rattle.ideal.specs.declared.BoxRecord.{BoxRecord}
 use Rattle.ideal.specs.declared.LogRow.{LogRow}
-use Rattle.ideal.specs.State.{Logged, State, caller, part, ownPart}
-use Rattle.ideal.specs.Step.{paired, logged, full, withPair, withCommon, firstHolding, idle, beyond, tests, refusal, move, apply, effect, number, shown, refusedAnswer, refuse, accepted, settle, step}
-use Rattle.ideal.specs.Tables.{Tables, flat, usedBy, boxRecord, tables, stateOf}
-use Rattle.ideal.specs.Box.{Result, laid}
-use Rattle.lists.proofs.Bools.{by-cases, and-other, not-is}
+use Rattle.ideal.specs.State.{LogKey, part}
+use Rattle.ideal.specs.Step.{paired, logged, full, withPair, firstHolding, idle, beyond, tests, refusal, move, apply, effect, number, shown, step}
+use Rattle.ideal.specs.Tables.{Tables, boxRecord, tables, stateOf}
+use Rattle.ideal.specs.Box.{laid}
 use Rattle.ideal.specs.Valid.{Valid}
+use Rattle.lists.proofs.Bools.{by-cases, and-other, not-is}
 use Rattle.ideal.proofs.Chain.{failed, passed}
 use Rattle.ideal.proofs.Entries.{right-tags}
-use Rattle.ideal.proofs.Kept.{own-size, busy}
-use Rattle.ideal.proofs.Table.{entries-back, log-lawful}
-use Rattle.ideal.proofs.More.{row-added, value-added, counts-raised}
-use Rattle.ideal.proofs.Memory.{flat-part}
-use Rattle.state.specs.Answers.{settled, answered}
-use Rattle.state.proofs.Settled.{answerOf, ShowsNone}
-use Rattle.log.specs.Narrow.{moreLog, attested, attestOn, checkOn}
-use Rattle.state.specs.Counts.{Room, fullBy}
-use Rattle.state.specs.Parts.{logOf}
-use Rattle.state.specs.Edits.{EditsBy, Stored, changed}
-use Rattle.state.proofs.Edited.{no-edits, log-added}
+use Rattle.state.specs.Answers.{acceptedWith}
+use Rattle.state.specs.Counts.{fullBy, Room}
+use Rattle.state.specs.Edits.{EditsBy, Stored, logStore, more}
+use Rattle.state.specs.Parts.{callerOf, heapByte, logOf}
+use Rattle.state.proofs.Edited.{no-edits}
+use Rattle.state.proofs.Parts.{HeapFits, heap-fits, own-value, own-count}
 use Rattle.state.proofs.Rooms.{has-room}
+use Rattle.state.proofs.Settled.{answerOf, ShowsNone, part-settled, Moves, laid-step}
+use Rattle.state.proofs.Stores.{onTables, onLog, log-edits, log-added, unless-edits, unless-alone, unless-step}
+use Rattle.log.specs.Narrow.{attested, attestRefusal, attestOn, checkOn}
 use Rattle.pairs.proofs.Pairs.{paired-logged}
 
--- the host's tables with the log's parts replaced, and the whole answer
-abbrev pub onLog : Tables → Stored → ℕ → Result
-onLog t r used =
-    record {
-      tables = changed t (r .change) (t .heaps) (t .shared) (r .values) (t .escrowValues);
-      answer = answerOf (r .change .answer) used [];
-    }
+-- ---- attest, of any parts
 
--- one entry more
-added : (s : State) (e : Logged) (used : ℕ) → Room (tables s .box .log) (length (e .value))
-    → laid (record { state = withCommon s (s .shared) (s .log ++ (e ∷ [])) (s .escrow); answer = record { code = 0; number = e .key .tag .0; used = used; shown = [] } })
-    ≡ onLog (tables s) (moreLog (tables s .box) (tables s .logValues) (e .key) (e .value)) used
-unfolding laid tables boxRecord moreLog
-added s e used room = λ j.
-    record {
-      tables =
-          record {
-            box =
-                record {
-                  taken = boxRecord s .taken;
-                  running = s .running;
-                  identities = s .identities;
-                  log = counts-raised (s .log) e j;
-                  escrow = boxRecord s .escrow;
-                };
-            heaps = flat (s .heaps);
-            shared = s .shared;
-            logRows = row-added log-lawful (s .log) e (room .row) j;
-            logValues = value-added (s .log) e (room .bytes) j;
-            escrowRows = tables s .escrowRows;
-            escrowValues = tables s .escrowValues;
-          };
-      answer = record { code = 0; number = e .key .tag .0; used = used; shown = [] };
-    }
+module _ (b : BoxRecord) (rows : List LogRow) (values : List ℕ) (i : ℕ) (g : Tag) (v : List ℕ) where
+  -- what an accepted call passed
+  record Attests (offset size : ℕ) : Type 0 where
+    heap : HeapFits (b .running) offset size
+    room : logged i g v (logOf b rows values) ≡ false → Room (b .log) size
 
-module _ (s : State) (k : Valid s) (o n used : ℕ) where
-  abbrev t : Tables
-  t = tables s
+  attests : (o n : ℕ) → b .running ≤ 16 → b .log .rows ≤ 64 → attestRefusal b rows values o n i g v ≡ 0 → Attests o n
+  unfolding attestRefusal
+  attests o n runs few e =
+      let e₁ = passed 3 (eqb (b .running) 16) _ e in
+      let e₂ = passed 10 (beyond 256 o n) _ e₁ in
+      record {
+        heap = heap-fits (b .running) o n runs (failed 3 (eqb (b .running) 16) _ e) (failed 10 (beyond 256 o n) _ e₁);
+        room = λ h. has-room (b .log) n few (and-other _ (fullBy (b .log) n) (not-is _ h) (failed 12 _ _ e₂));
+      }
 
-  abbrev c : Call
-  c = attest o n
+  attested-edits : {o n : ℕ} → Attests o n → let c = attested b rows values i g v .change in EditsBy b (c .held) (c .edits)
+  unfolding attested
+  attested-edits p =
+      by-cases (logged i g v (logOf b rows values)) (λ h. rw h (no-edits b b refl refl)) (λ h. rw h (log-edits b values v _ (p .room h .row)))
 
-  -- what an attest leaves, of a refusal and a value
-  abbrev leaves : ℕ → List ℕ → Result
-  leaves r v = onLog t (attested r (t .box) (t .logRows) (t .logValues) (caller s) (tagOf (caller s) v) v) used
+  attested-answer : attested b rows values i g v .change .answer ≡ acceptedWith (g .0)
+  unfolding attested more
+  attested-answer = by-cases (logged i g v (logOf b rows values)) (λ h. rw h) (λ h. rw h)
 
-  refused : (m : ℕ) (v : List ℕ) → laid (settle (suc m) s c used) ≡ leaves (suc m) v
-  unfolding laid settle refuse refusedAnswer attested settled
-  refused m v = refl
-
-  used-log : logOf (t .box) (t .logRows) (t .logValues) ≡ s .log
-  unfolding tables boxRecord
-  used-log = entries-back log-lawful (s .log)
-
-  fullness : fullBy (t .box .log) n ≡ full (s .log) n
-  unfolding tables boxRecord fullBy full
-  fullness = refl
-
-  room : full (s .log) n ≡ false → Room (t .box .log) n
-  unfolding tables boxRecord full fullBy
-  room f = has-room (usedBy (s .log)) n (k .log .few) f
-
-  module _ (runs : idle s ≡ false) (fits : beyond 256 o n ≡ false) where
-    abbrev i : ℕ
-    i = caller s
-
-    abbrev v : List ℕ
-    v = ownPart s o n
-
-    within : o + n ≤ 256
-    unfolding beyond
-    within = ltb-false 256 (o + n) fits
-
-    own : part (t .heaps) (256 * t .box .running + o) n ≡ v
-    unfolding tables boxRecord ownPart
-    own =
-        let run = busy s k runs in
-        flat-part (s .heaps) (s .running) o n (λ p h. k .sizes p (omega (arith, k .heaps))) (omega (arith, k .heaps)) within
-
-    pairs : logged i (tagOf i v) v (s .log) ≡ paired i v (s .log)
-    pairs = sym (paired-logged i v (s .log) (right-tags k))
-
-    attests : not (paired i v (s .log)) && full (s .log) n ≡ false → laid (settle 0 s c used) ≡ leaves 0 v
-    unfolding laid settle accepted effect move apply number shown withPair attested settled
-    attests h =
-        let size = own-size s o n k (busy s k runs) within in
-        by-cases (paired i v (s .log))
-        (λ e. rw (used-log, pairs, e))
-        (λ e.
-        let r = room (and-other (not (paired i v (s .log))) _ (not-is _ e) h) in
-        rw (used-log, pairs, e)
-        (added s (record { key = record { identity = i; tag = tagOf i v }; value = v }) used (rw size r)))
-
-  attest-laid : laid (step s c used) ≡ onLog t (attestOn (t .box) (t .logRows) (t .heaps) (t .logValues) o n) used
-  unfolding step refusal tests firstHolding idle attestOn tables boxRecord
-  attest-laid =
-      let said = part (t .heaps) (256 * t .box .running + o) n in
-      by-cases (idle s)
-      (λ e. rw e (refused 3 said))
-      (λ e.
-      by-cases (beyond 256 o n)
-      (λ f. rw (e, f) (refused 10 said))
-      (λ f.
-      rw (e, f, own e f, used-log, pairs e f, fullness)
-      (by-cases (not (paired (caller s) (ownPart s o n) (s .log)) && full (s .log) n)
-      (λ h. rw h (refused 12 (ownPart s o n)))
-      (λ h. rw h (attests e f h)))))
-
-pub attest-step : (t : Tables) → Valid (stateOf t) → tables (stateOf t) ≡ t → (o n used : ℕ)
-    → laid (step (stateOf t) (attest o n) used) ≡ onLog t (attestOn (t .box) (t .logRows) (t .heaps) (t .logValues) o n) used
-attest-step t k e o n used =
-    attest-laid (stateOf t) k o n used
-    ∙ ap (λ x. onLog x (attestOn (x .box) (x .logRows) (x .heaps) (x .logValues) o n) used) e
-
-check-laid : (s : State) (i : ℕ) (g : Tag) (v : List ℕ) (used : ℕ) → laid (step s (check i g v) used)
-    ≡ record {
-      tables = tables s;
-      answer = answerOf (checkOn (tables s .box) (tables s .logRows) (tables s .logValues) i g v) used [];
-    }
-unfolding laid step refusal tests firstHolding settle refuse refusedAnswer accepted effect move apply number shown checkOn answered tables boxRecord
-check-laid s i g v used = by-cases (eqb i 0) (λ e. rw e) (λ e. rw (e, entries-back log-lawful (s .log)))
-
-pub check-step : (t : Tables) → Valid (stateOf t) → tables (stateOf t) ≡ t → (i : ℕ) (g : Tag) (v : List ℕ) (used : ℕ)
-    → laid (step (stateOf t) (check i g v) used)
-    ≡ record { tables = t; answer = answerOf (checkOn (t .box) (t .logRows) (t .logValues) i g v) used [] }
-check-step t k e i g v used =
-    check-laid (stateOf t) i g v used
-    ∙ ap (λ x. record { tables = x; answer = answerOf (checkOn (x .box) (x .logRows) (x .logValues) i g v) used [] }) e
-
--- ---- an attest puts a row only where one is not used
-
-attested-edits : (r : ℕ) (b : BoxRecord) (rows : List LogRow) (values : List ℕ) (i : ℕ) (g : Tag) (v : List ℕ)
-    → (r ≡ 0 → logged i g v (logOf b rows values) ≡ false → b .log .rows < 64)
-    → let c = attested r b rows values i g v .change in EditsBy b (c .held) (c .edits)
-unfolding attested settled moreLog
-attested-edits zero b rows values i g v h =
-    by-cases (logged i g v (logOf b rows values)) (λ e. rw e (no-edits b b refl refl)) (λ e. rw e (log-added b _ refl refl (h refl e)))
-attested-edits (suc r) b rows values i g v h = no-edits b b refl refl
-
-pub attest-edits : (b : BoxRecord) (rows : List LogRow) (heaps values : List ℕ) (o n : ℕ) → b .log .rows ≤ 64
+-- a row is put only where one is not used
+pub attest-edits : (b : BoxRecord) (rows : List LogRow) (heaps values : List ℕ) (o n : ℕ) → b .running ≤ 16 → b .log .rows ≤ 64
     → let c = attestOn b rows heaps values o n .change in EditsBy b (c .held) (c .edits)
 unfolding attestOn
-attest-edits b rows heaps values o n few =
-    attested-edits _ b rows values _ _ _ (λ e f.
-    let e₁ = passed 3 (eqb (b .running) 16) _ e in
-    let e₂ = passed 10 (beyond 256 o n) _ e₁ in
-    let other = failed 12 _ _ e₂ in
-    has-room (b .log) n few (and-other _ (fullBy (b .log) n) (not-is _ f) other) .row)
+attest-edits b rows heaps values o n runs few =
+    unless-edits b values _ _ (λ e. attested-edits b rows values _ _ _ (attests b rows values _ _ _ o n runs few e))
 
--- ---- it uses no byte of a record, and shows none
-
-attested-alone : (r : ℕ) (b : BoxRecord) (rows : List LogRow) (values : List ℕ) (i : ℕ) (g : Tag) (v : List ℕ)
-    → ShowsNone (attested r b rows values i g v .change .answer)
-unfolding attested settled moreLog
-attested-alone zero b rows values i g v = by-cases (logged i g v (logOf b rows values)) (λ e. rw e (refl, refl)) (λ e. rw e (refl, refl))
-attested-alone (suc r) b rows values i g v = (refl, refl)
-
+-- it uses no byte of a record, and shows none
 pub attest-alone : (b : BoxRecord) (rows : List LogRow) (heaps values : List ℕ) (o n : ℕ)
     → ShowsNone (attestOn b rows heaps values o n .change .answer)
 unfolding attestOn
-attest-alone b rows heaps values o n = attested-alone _ b rows values _ _ _
+attest-alone b rows heaps values o n = unless-alone b values _ _ (attested-answer b rows values _ _ _)
+
+module _ (t : Tables) (k : Valid (stateOf t)) (e : tables (stateOf t) ≡ t) where
+  -- ---- attest, as the step
+
+  module _ (o n : ℕ) where
+    abbrev i : ℕ
+    i = callerOf (t .box)
+
+    abbrev v : List ℕ
+    v = part (t .heaps) (heapByte (t .box) o) n
+
+    abbrev key : LogKey
+    key = record { identity = i; tag = tagOf i v }
+
+    abbrev x : Stored
+    x = attested (t .box) (t .logRows) (t .logValues) i (tagOf i v) v
+
+    fullness : full (stateOf t .log) n ≡ fullBy (t .box .log) n
+    unfolding full fullBy tables boxRecord
+    fullness = ap (λ y. fullBy (y .box .log) n) e
+
+    -- tags are right, so that the code may look for them first
+    pairs : paired i v (stateOf t .log) ≡ logged i (tagOf i v) v (stateOf t .log)
+    pairs = paired-logged i v (stateOf t .log) (right-tags k)
+
+    -- the last test agrees where the first two have passed
+    attest-refusal : refusal (stateOf t) (attest o n) ≡ attestRefusal (t .box) (t .logRows) (t .logValues) o n i (tagOf i v) v
+    unfolding refusal tests firstHolding attestRefusal idle stateOf
+    attest-refusal =
+        by-cases (idle (stateOf t)) (λ h. rw h)
+        (λ runs.
+        by-cases (beyond 256 o n) (λ h. rw (runs, h))
+        (λ within.
+        let own = own-value t k e o n (heap-fits (t .box .running) o n (k .runs) runs within) in
+        rw (runs, within, own, pairs, fullness)))
+
+    passes : refusal (stateOf t) (attest o n) ≡ 0 → Attests (t .box) (t .logRows) (t .logValues) i (tagOf i v) v o n
+    unfolding tables boxRecord stateOf
+    passes r =
+        let m = ap (λ y. y .box .log .rows) e in
+        attests (t .box) _ _ _ _ _ o n (k .runs) (omega (arith, k .log .few)) (sym attest-refusal ∙ r)
+
+    attest-moves : Moves t (onLog t x) (attest o n) (tagOf i v .0) []
+    unfolding effect move apply number shown withPair attested stateOf
+    attest-moves =
+        record {
+          leaves = λ r.
+              let p = passes r in
+              rw (own-value t k e o n (p .heap), pairs)
+              (by-cases (logged i (tagOf i v) v (stateOf t .log)) (λ h. rw h e)
+              (λ h.
+              rw h
+              (log-added (stateOf t) (record { key = key; value = v }) (rw (e, own-count t k e o n (p .heap)) (p .room h))
+              ∙ ap (λ y. onLog y (more logStore (y .box) (y .logValues) key v)) e)));
+          answers = λ r. ap (λ y. tagOf i y .0) (own-value t k e o n (passes r .heap));
+          shows = λ r. refl;
+        }
+
+    pub attest-step : (used : ℕ) → laid (step (stateOf t) (attest o n) used)
+        ≡ onTables (onLog t) (attestOn (t .box) (t .logRows) (t .heaps) (t .logValues) o n) used
+    unfolding attestOn
+    attest-step used =
+        unless-step (onLog t) (λ a. refl) x used e attest-refusal (attested-answer (t .box) _ _ _ _ _) attest-moves
+
+  -- ---- check alters nothing
+
+  pub check-step : (i : ℕ) (g : Tag) (v : List ℕ) (used : ℕ) → laid (step (stateOf t) (check i g v) used)
+      ≡ record { tables = t; answer = answerOf (checkOn (t .box) (t .logRows) (t .logValues) i g v) used [] }
+  unfolding checkOn refusal tests effect move apply number shown stateOf
+  check-step i g v used =
+      laid-step used e (record { leaves = λ r. e; answers = λ r. refl; shows = λ r. refl })
+      ∙ part-settled (λ (y : Tables). t) t t _ _ used refl

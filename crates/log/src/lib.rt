@@ -4,9 +4,9 @@ ghost use Prim.Native.Nat.{_≤_};
 ghost use lib.ListN.{length};
 ghost use Rattle.ideal.specs.Tables.{logTable};
 ghost use Rattle.state.specs.Counts.{Room};
-ghost use Rattle.state.specs.Edits.{stored};
+ghost use Rattle.state.specs.Edits.{stored, logStore, more};
 ghost use Rattle.state.specs.Parts.{TableFits};
-ghost use Rattle.log.specs.Narrow.{moreLog, attestValue, attestOn, checkOn};
+ghost use Rattle.log.specs.Narrow.{attestValue, attestOn, checkOn};
 use buffers::put;
 use fnv::Tag;
 use fnv::tag_of;
@@ -29,7 +29,7 @@ use state::unedited;
 // One row and its value more.
 fn log_more(held: BoxRecord, values: &mut [u8], identity: u64, tag: Tag, value: &[u8]) -> Change
     requires { ⌜ (length (now values) ≡ 4096) × Room (held .log) (length (now value)) ⌝ }
-    ensures { λ r. ⌜ stored r (now (values .exit)) ≡ moreLog held (now (values .entry)) (record { identity = identity; tag = tag }) (now (value .entry)) ⌝ }
+    ensures { λ r. ⌜ stored r (now (values .exit)) ≡ more logStore held (now (values .entry)) (record { identity = identity; tag = tag }) (now (value .entry)) ⌝ }
 {
     let used = held.log;
     let size = value.len() as u16;
@@ -50,6 +50,7 @@ fn log_more(held: BoxRecord, values: &mut [u8], identity: u64, tag: Tag, value: 
         put: true,
         at: used.rows as usize,
         row,
+        fall: 0,
     };
     let edits = Edits {
         log: edit,

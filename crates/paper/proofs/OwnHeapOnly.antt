@@ -16,12 +16,12 @@ use Rattle.ideal.specs.Valid.{Valid}
 use Rattle.paper.specs.ServiceLife.{heapOf, OnlyOtherHeaps, ReadsOwnHeap}
 use Rattle.lists.proofs.Bools.{by-cases, clash, and-false, and-other, not-is}
 use Rattle.ideal.proofs.Heaps.{chunks-length}
-use Rattle.ideal.proofs.Laid.{valid-sound, tables-state, valid-step, call-is}
+use Rattle.ideal.proofs.Laid.{valid-sound, tables-state, call-is}
+use Rattle.ideal.proofs.Kept.{valid-step}
 use Rattle.ideal.proofs.Hosted.{heap-is}
 use Rattle.ideal.proofs.TwoEscrows.{SameEscrow, no-entries, entry, same-escrow}
 use Rattle.ideal.proofs.TwoStates.{Secrets, SameBut, NoneTold}
-use Rattle.ideal.proofs.TwoSteps.{both-element, all-equal}
-use Rattle.ideal.proofs.Secret.{same-box, same-escrow-rows}
+use Rattle.ideal.proofs.Secret.{both-element, all-equal, same-box, same-escrow-rows}
 
 -- the heaps of taken places other than p
 abbrev others : ℕ → Secrets

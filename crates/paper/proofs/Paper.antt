@@ -21,8 +21,8 @@ use Rattle.ideal.proofs.Runs.{stateBefore, running-before, code-at}
 use Rattle.ideal.proofs.Checks.{check-at}
 use Rattle.ideal.proofs.Retrieves.{retrieve-at, handed}
 use Rattle.ideal.proofs.Free.{handle-size}
-use Rattle.ideal.proofs.Handles.{gives}
-use Rattle.ideal.proofs.Accurate.{handle-once, handle-is-first-free}
+use Rattle.ideal.proofs.Handles.{handle-once}
+use Rattle.ideal.proofs.FirstFree.{gives, handle-is-first-free}
 use Rattle.paper.proofs.Behaviours.{event-of}
 use Rattle.paper.proofs.Events.{EventOf, fails?, event-at, earlier, event-earlier, sized, reads-as, gave, logs-at, protects-at, caller-is, runs-none, gave-it, attest-event, check-event, protect-event, retrieve-event, after-retrieve}
 

@@ -30,7 +30,8 @@ use Rattle.ideal.proofs.Memory.{sets-byte, part-at}
 use Rattle.ideal.proofs.Facts.{facts}
 use Rattle.ideal.proofs.Accepts.{sound-of}
 use Rattle.ideal.proofs.Does.{own-size}
-use Rattle.ideal.proofs.Laid.{valid-effect, call-is}
+use Rattle.ideal.proofs.Laid.{call-is}
+use Rattle.ideal.proofs.Kept.{valid-effect}
 use Rattle.ideal.proofs.Runs.{stateBefore, valid-before, tables-before, caller-before, own-before, Accepted, accepted-call, accepted-at, number-at}
 use Rattle.ideal.proofs.OwnHeap.{own-bytes, written-stands}
 use Rattle.ideal.proofs.Does.{ProtectPassed, protect-passed}

@@ -21,9 +21,9 @@ use Rattle.ideal.specs.Valid.{Valid}
 use Rattle.paper.specs.ServiceLife.{heapOf, WritesOwnHeap, RunsAt, WritesAt, YieldKeeps, ExitClears, TenantReadsZeros}
 use Rattle.lists.proofs.Bools.{by-cases, and-left, and-right}
 use Rattle.ideal.proofs.Chain.{failed, passed}
-use Rattle.ideal.proofs.Does.{busy, Does, does-nothing, does-take, does-activate, does-empty, does-write, does-share, does-log, does-escrow}
-use Rattle.ideal.proofs.ByKind.{does}
-use Rattle.ideal.proofs.Laid.{stepElement, valid-sound, tables-state, valid-step, call-is}
+use Rattle.ideal.proofs.Does.{busy, Does, does-nothing, does-take, does-activate, does-empty, does-write, does-share, does-log, does-escrow, does}
+use Rattle.ideal.proofs.Laid.{stepElement, valid-sound, tables-state, call-is}
+use Rattle.ideal.proofs.Kept.{valid-step}
 use Rattle.ideal.proofs.Memory.{part-at}
 use Rattle.ideal.proofs.Table.{part-length}
 use Rattle.ideal.proofs.Hosted.{heap-is}

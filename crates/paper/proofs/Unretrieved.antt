@@ -23,11 +23,11 @@ use Rattle.ideal.specs.Valid.{Valid}
 use Rattle.paper.specs.Paper.{Command, iattest, icheck, iprotect, iretrieve, principalIn, commandOf, eventOf, events, behaviourFrom, OnlyValue, NeverRetrieved, AgreeBut, Lemma3}
 use Rattle.lists.proofs.Bools.{by-cases, and-left, and-right}
 use Rattle.ideal.proofs.Facts.{facts}
-use Rattle.ideal.proofs.Laid.{stepElement, valid-sound, tables-state, valid-step, call-is}
+use Rattle.ideal.proofs.Laid.{stepElement, valid-sound, tables-state, call-is}
+use Rattle.ideal.proofs.Kept.{valid-step}
 use Rattle.ideal.proofs.TwoEscrows.{SameEntry, SameEscrow, no-entries, entry}
 use Rattle.ideal.proofs.TwoStates.{Secrets, SameBut, length-part, NoneTold}
-use Rattle.ideal.proofs.TwoSteps.{both-element, all-equal}
-use Rattle.ideal.proofs.Secret.{accepted-code, same-box, same-escrow-rows, same-escrow-values}
+use Rattle.ideal.proofs.Secret.{both-element, all-equal, accepted-code, same-box, same-escrow-rows, same-escrow-values}
 
 -- the value under one key may differ, and no heap
 abbrev pub unretrieved : ℕ → ℕ → Handle → Secrets

@@ -1,12 +1,10 @@
 -- What retrieve does to the tables of a valid state is the step of that state, laid out. Assumes nothing.
-use Prim.Native.Nat.{ℕ, _+_}
+use Prim.Native.Nat.{ℕ}
 use mathlib.Core.Path.{_≡_, refl, _∙_}
 use mathlib.Core.List.{List, []}
-use native.Mathlib.Omega.{arith}
 use lib.ListN.{length}
 use lib.Seq.{sets}
 use lib.Dec.{eqb}
-use borrow.Author.Tests.{eqb-false, ltb-false}
 use Rattle.record.specs.declared.Handle.{Handle}
 use Rattle.record.specs.Call.{retrieve}
 use Rattle.ideal.specs.Step.{found, absent, valueIn, idle, beyond, tests, refusal, move, apply, effect, number, shown, step}
@@ -16,7 +14,7 @@ use Rattle.ideal.proofs.Chain.{failed, passed}
 use Rattle.ideal.specs.Valid.{Valid}
 use Rattle.ideal.proofs.HeapBytes.{replaceHeaps, written-bytes}
 use Rattle.state.specs.Parts.{heapByte}
-use Rattle.state.proofs.Parts.{HeapFits}
+use Rattle.state.proofs.Parts.{HeapFits, heap-fits}
 use Rattle.state.proofs.Settled.{answerOf, part-settled, Moves, laid-step}
 use Rattle.retrieval.specs.Narrow.{foundOn, retrieveRefusal, retrieveAnswer, retrieveHeaps}
 
@@ -29,17 +27,13 @@ module _ (t : Tables) (k : Valid (stateOf t)) (e : tables (stateOf t) ≡ t) whe
     handed = valueIn (foundOn (t .box) (t .escrowRows) (t .escrowValues) i h)
 
     retrieves : refused ≡ 0 → HeapFits (t .box .running) o (length handed)
-    unfolding retrieveRefusal beyond stateOf
+    unfolding retrieveRefusal stateOf
     retrieves r =
         let p = t .box .running in
         let r₁ = passed 3 (eqb p 16) _ r in
         let r₂ = passed 8 (eqb i 0) _ r₁ in
         let r₃ = passed 9 (absent (foundOn (t .box) (t .escrowRows) (t .escrowValues) i h)) _ r₂ in
-        let busy = eqb-false p 16 (failed 3 (eqb p 16) _ r) in
-        record {
-          runs = omega (arith, k .runs);
-          within = ltb-false 256 (o + length handed) (failed 10 (beyond 256 o (length handed)) _ r₃);
-        }
+        heap-fits p o (length handed) (k .runs) (failed 3 (eqb p 16) _ r) (failed 10 (beyond 256 o (length handed)) _ r₃)
 
     retrieve-moves : Moves t (replaceHeaps t (sets (t .heaps) (heapByte (t .box) o) handed)) (retrieve i o h) (length handed) []
     unfolding effect move apply number shown refusal tests found retrieveRefusal idle stateOf

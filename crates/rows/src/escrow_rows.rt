@@ -1,11 +1,14 @@
 // The escrow's rows, lent as a slice of whole rows.
 ghost use mathlib.Core.Path.{_≡_};
 ghost use Prim.Native.Nat.{_<_};
-ghost use lib.ListN.{length, set, getD};
+ghost use lib.ListN.{length, getD};
 ghost use Rattle.ideal.specs.Tables.{escrowTable, freshTables};
+ghost use Rattle.state.specs.Edits.{edited, Fits};
 use ideal::EscrowRow;
 use state::EscrowTable;
+use state::falls_from;
 use state::fresh_escrow;
+use state::lower_escrow_row;
 
 pub fn escrow_row_at(rows: &[EscrowRow], i: usize) -> EscrowRow
     requires { ⌜ i < length (now rows) ⌝ }
@@ -14,11 +17,19 @@ pub fn escrow_row_at(rows: &[EscrowRow], i: usize) -> EscrowRow
     rows[i]
 }
 
-pub fn put_escrow_row(rows: &mut [EscrowRow], at: usize, row: EscrowRow)
-    requires { ⌜ at < length (now rows) ⌝ }
-    ensures { λ _. ⌜ now (rows .exit) ≡ set (now (rows .entry)) at row ⌝ }
+// As edit_log.
+pub fn edit_escrow(rows: &mut [EscrowRow], put: bool, at: usize, row: EscrowRow, fall: u16)
+    requires { ⌜ Fits put at (length (now rows)) ⌝ }
+    ensures { λ _. ⌜ now (rows .exit) ≡ edited escrowTable put at row fall (now (rows .entry)) ⌝ }
 {
-    rows[at] = row;
+    if put {
+        rows[at] = row;
+        let mut i = falls_from(at, fall, rows.len());
+        while i < rows.len() {
+            rows[i] = lower_escrow_row(rows[i], fall);
+            i = i + 1;
+        }
+    }
 }
 
 // Rows for a copy to write over.

@@ -1,11 +1,14 @@
 // The log's rows, lent as a slice of whole rows.
 ghost use mathlib.Core.Path.{_≡_};
 ghost use Prim.Native.Nat.{_<_};
-ghost use lib.ListN.{length, set, getD};
+ghost use lib.ListN.{length, getD};
 ghost use Rattle.ideal.specs.Tables.{logTable, freshTables};
+ghost use Rattle.state.specs.Edits.{edited, Fits};
 use ideal::LogRow;
 use state::LogTable;
+use state::falls_from;
 use state::fresh_log;
+use state::lower_log_row;
 
 pub fn log_row_at(rows: &[LogRow], i: usize) -> LogRow
     requires { ⌜ i < length (now rows) ⌝ }
@@ -14,11 +17,19 @@ pub fn log_row_at(rows: &[LogRow], i: usize) -> LogRow
     rows[i]
 }
 
-pub fn put_log_row(rows: &mut [LogRow], at: usize, row: LogRow)
-    requires { ⌜ at < length (now rows) ⌝ }
-    ensures { λ _. ⌜ now (rows .exit) ≡ set (now (rows .entry)) at row ⌝ }
+// A row put, if put says so, and the rows after it lowered.
+pub fn edit_log(rows: &mut [LogRow], put: bool, at: usize, row: LogRow, fall: u16)
+    requires { ⌜ Fits put at (length (now rows)) ⌝ }
+    ensures { λ _. ⌜ now (rows .exit) ≡ edited logTable put at row fall (now (rows .entry)) ⌝ }
 {
-    rows[at] = row;
+    if put {
+        rows[at] = row;
+        let mut i = falls_from(at, fall, rows.len());
+        while i < rows.len() {
+            rows[i] = lower_log_row(rows[i], fall);
+            i = i + 1;
+        }
+    }
 }
 
 // Rows for a copy to write over.

@@ -12,7 +12,8 @@ use Rattle.ideal.specs.Tables.{tables}
 use Rattle.ideal.specs.Box.{laid}
 use Rattle.ideal.specs.Exam.{hex}
 use Rattle.ideal.specs.Valid.{Valid}
-use Rattle.ideal.proofs.Laid.{stepElement, valid-fresh, valid-on, fresh-tables, call-is}
+use Rattle.ideal.proofs.Laid.{stepElement, fresh-tables, call-is}
+use Rattle.ideal.proofs.Kept.{valid-fresh, valid-on}
 use Rattle.sheet.specs.Sheet.{bytesOf, digitOf, decimalIn, decimal, shownText, spaced, line, header, tooLong, lastCode, stops, called, linesFrom, sheet}
 use Rattle.sheet.specs.Examples.{exampleScript, exampleSheet, Example, TooLongLine}
 

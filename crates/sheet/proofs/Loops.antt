@@ -14,7 +14,7 @@ use Rattle.ideal.specs.Tables.{Tables, stateOf, freshTables}
 use Rattle.ideal.specs.Box.{Result, laid, callOn}
 use Rattle.ideal.specs.Layouts.{Sound}
 use Rattle.lists.proofs.Bools.{by-cases, clash}
-use Rattle.ideal.proofs.Laid.{stays-sound, fresh-box}
+use Rattle.ideal.proofs.Kept.{stays-sound, fresh-box}
 use Rattle.sheet.specs.Sheet.{stops, called, linesFrom, sheet}
 use Rattle.sheet.specs.Turns.{turn, Loop, nothing-left, stopped, went-on, joined, UsesTwo, UsesWithin, NoneMissing, TurnByTurn, LoopEnds, LoopWritesSheet}
 use Rattle.sheet.proofs.Readings.{Ends, last, read-on, read-ends}

@@ -1,15 +1,17 @@
--- What a call makes of the tables: a row put into one of them at an index, or none.
-use Prim.Native.Nat.{ℕ, _+_, _<_}
+-- What a call makes of the tables: a row put into one of them at an index, with the first bytes of the rows after it lowered, or nothing.
+use Prim.Native.Nat.{ℕ, _+_, _-_, _<_}
 use mathlib.Core.Path.{_≡_}
 use mathlib.Core.Bool.{Bool, true, false, cond}
-use mathlib.Core.List.{List}
-use lib.ListN.{set}
+use mathlib.Core.List.{List, _++_, map}
+use lib.ListN.{length, set, take, drop}
+use lib.Seq.{sets}
 use lib.Dec.{ltb}
 use Rattle.ideal.specs.declared.BoxRecord.{BoxRecord}
 use Rattle.ideal.specs.declared.Used.{Used}
 use Rattle.ideal.specs.declared.LogRow.{LogRow}
 use Rattle.ideal.specs.declared.EscrowRow.{EscrowRow}
-use Rattle.ideal.specs.Tables.{Tables, logTable, escrowTable}
+use Rattle.ideal.specs.State.{LogKey, EscrowKey}
+use Rattle.ideal.specs.Tables.{RowsOf, Tables, logTable, escrowTable}
 use Rattle.state.specs.declared.LogTable.{LogTable}
 use Rattle.state.specs.declared.EscrowTable.{EscrowTable}
 use Rattle.state.specs.declared.Answer.{Answer}
@@ -17,17 +19,28 @@ use Rattle.state.specs.declared.LogEdit.{LogEdit}
 use Rattle.state.specs.declared.EscrowEdit.{EscrowEdit}
 use Rattle.state.specs.declared.Edits.{Edits}
 use Rattle.state.specs.declared.Change.{Change}
+use Rattle.state.specs.Answers.{refusedWith, acceptedWith, settled}
 
 -- ---- the rows after an edit
 
-abbrev pub edited : {Row : Type 0} → (put : Bool) → (at : ℕ) → Row → List Row → List Row
-edited put at row rows = cond put (set rows at row) rows
+module _ {Row Key : Type 0} (t : RowsOf Row Key) where
+  -- the first byte falls by n, to 0 at most: a blank row stays blank
+  abbrev pub lowered : (n : ℕ) → Row → Row
+  lowered n r = t .row (t .key r) (t .first r - n) (t .size r)
+
+  -- the rows from an index on
+  unfoldable pub loweredFrom : (at n : ℕ) → List Row → List Row
+  loweredFrom at n rows = take at rows ++ map (lowered n) (drop at rows)
+
+  -- a row put at an index, and the rows after it lowered; or none
+  abbrev pub edited : (put : Bool) → (at : ℕ) → Row → (fall : ℕ) → List Row → List Row
+  edited put at row fall rows = cond put (loweredFrom (at + 1) fall (set rows at row)) rows
 
 abbrev pub logEdited : LogEdit → List LogRow → List LogRow
-logEdited e rows = edited (e .put) (e .at) (e .row) rows
+logEdited e rows = edited logTable (e .put) (e .at) (e .row) (e .fall) rows
 
 abbrev pub escrowEdited : EscrowEdit → List EscrowRow → List EscrowRow
-escrowEdited e rows = edited (e .put) (e .at) (e .row) rows
+escrowEdited e rows = edited escrowTable (e .put) (e .at) (e .row) (e .fall) rows
 
 abbrev pub logWith : LogEdit → LogTable → LogTable
 logWith e log = record { rows = logEdited e (log .rows) }
@@ -35,17 +48,17 @@ logWith e log = record { rows = logEdited e (log .rows) }
 abbrev pub escrowWith : EscrowEdit → EscrowTable → EscrowTable
 escrowWith e escrow = record { rows = escrowEdited e (escrow .rows) }
 
--- it is put at a row that there is
-abbrev pub Fits : (put : Bool) → (at : ℕ) → Type 0
-Fits put at = put ≡ true → at < 64
+-- it is put at one of n rows
+abbrev pub Fits : (put : Bool) → (at n : ℕ) → Type 0
+Fits put at n = put ≡ true → at < n
 
 -- ---- no edit: a blank row stands for the row
 
 abbrev pub noLogEdit : LogEdit
-noLogEdit = record { put = false; at = 0; row = logTable .blank }
+noLogEdit = record { put = false; at = 0; row = logTable .blank; fall = 0 }
 
 abbrev pub noEscrowEdit : EscrowEdit
-noEscrowEdit = record { put = false; at = 0; row = escrowTable .blank }
+noEscrowEdit = record { put = false; at = 0; row = escrowTable .blank; fall = 0 }
 
 abbrev pub noEdits : Edits
 noEdits = record { log = noLogEdit; escrow = noEscrowEdit }
@@ -56,16 +69,18 @@ unchanged b a = record { held = b; edits = noEdits; answer = a }
 
 -- ---- the edits of a call, by the box records before and after it
 
--- a row is put where the used rows are one more, at the first that was not used; else a blank row stands for it
-pub record EditBy {Row : Type 0} (blank : Row) (before after : ℕ) (put : Bool) (at : ℕ) (row : Row) : Type 0 where
-  pub rises : put ≡ ltb before after
-  pub place : at ≡ cond put before 0
-  pub fits : Fits put at
+-- a row is put where the used rows are one more, at the first that was not used; else a blank row stands for it. First bytes
+-- fall as the used bytes do
+pub record EditBy {Row : Type 0} (blank : Row) (before after : Used) (put : Bool) (at : ℕ) (row : Row) (fall : ℕ) : Type 0 where
+  pub rises : put ≡ ltb (before .rows) (after .rows)
+  pub place : at ≡ cond put (before .rows) 0
+  pub falls : fall ≡ before .bytes - after .bytes
+  pub fits : Fits put at 64
   pub none : put ≡ false → row ≡ blank
 
 pub record EditsBy (before after : BoxRecord) (e : Edits) : Type 0 where
-  pub log : EditBy (logTable .blank) (before .log .rows) (after .log .rows) (e .log .put) (e .log .at) (e .log .row)
-  pub escrow : EditBy (escrowTable .blank) (before .escrow .rows) (after .escrow .rows) (e .escrow .put) (e .escrow .at) (e .escrow .row)
+  pub log : EditBy (logTable .blank) (before .log) (after .log) (e .log .put) (e .log .at) (e .log .row) (e .log .fall)
+  pub escrow : EditBy (escrowTable .blank) (before .escrow) (after .escrow) (e .escrow .put) (e .escrow .at) (e .escrow .row) (e .escrow .fall)
 
 -- ---- a call on one table
 
@@ -81,9 +96,58 @@ stored c values = record { change = c; values = values }
 abbrev pub kept : BoxRecord → List ℕ → Answer → Stored
 kept b values a = stored (unchanged b a) values
 
+-- what a call leaves, unless it is refused
+unfoldable pub unless : (refusal : ℕ) → BoxRecord → (values : List ℕ) → Stored → Stored
+unless refusal b values x = settled refusal (kept b values (refusedWith refusal)) x
+
+-- ---- an entry more, in the log or the escrow
+
+-- what differs between the two
+pub record Store (Row Key : Type 0) : Type 0 where
+  pub table : RowsOf Row Key
+  -- its counts in the box record, and the box record with others
+  pub used : BoxRecord → Used
+  pub held : BoxRecord → Used → BoxRecord
+  -- a row put at an index
+  pub put : (at : ℕ) → Row → Edits
+  -- what the call answers
+  pub number : Key → ℕ
+
+abbrev pub logStore : Store LogRow LogKey
+logStore =
+    record {
+      table = logTable;
+      used = λ b. b .log;
+      held = λ b u. record { taken = b .taken; running = b .running; identities = b .identities; log = u; escrow = b .escrow };
+      put = λ at row. record { log = record { put = true; at = at; row = row; fall = 0 }; escrow = noEscrowEdit };
+      number = λ k. k .tag .0;
+    }
+
+abbrev pub escrowStore : Store EscrowRow EscrowKey
+escrowStore =
+    record {
+      table = escrowTable;
+      used = λ b. b .escrow;
+      held = λ b u. record { taken = b .taken; running = b .running; identities = b .identities; log = b .log; escrow = u };
+      put = λ at row. record { log = noLogEdit; escrow = record { put = true; at = at; row = row; fall = 0 } };
+      number = λ k. k .handle .0;
+    }
+
 -- the counts with one row of n bytes more
 abbrev pub raised : Used → (n : ℕ) → Used
 raised used n = record { rows = used .rows + 1; bytes = used .bytes + n }
+
+-- one row and its value more
+unfoldable pub more : {Row Key : Type 0} → Store Row Key → BoxRecord → (values : List ℕ) → Key → (value : List ℕ) → Stored
+more s b values k v =
+    let used = s .used b in
+    stored
+    (record {
+      held = s .held b (raised used (length v));
+      edits = s .put (used .rows) (s .table .row k (used .bytes) (length v));
+      answer = acceptedWith (s .number k);
+    })
+    (sets values (used .bytes) v)
 
 -- ---- the host's tables after a call, with the bytes that it leaves
 

@@ -1,10 +1,13 @@
-// What goes in and comes back by value, a fresh box, whether a table has room, and a table with a row put into it.
+// What goes in and comes back by value, a fresh box, whether a table has room, and a table after an edit.
 mod editing;
 mod fresh;
 mod full;
 
 pub use editing::escrow_edited;
+pub use editing::falls_from;
 pub use editing::log_edited;
+pub use editing::lower_escrow_row;
+pub use editing::lower_log_row;
 pub use editing::no_escrow_edit;
 pub use editing::no_log_edit;
 pub use editing::unedited;
@@ -37,18 +40,20 @@ pub struct Answer {
     pub shown: u16,
 }
 
-// A row that goes into the log at an index, if put says so. What comes back of a table is this, and not the table: a table by
-// value is moved whole.
+// A row that goes into the log at an index, if put says so, and by how much the first bytes of the rows after it fall. What
+// comes back of a table is this, and not the table: a table by value is moved whole.
 pub struct LogEdit {
     pub put: bool,
     pub at: usize,
     pub row: LogRow,
+    pub fall: u16,
 }
 
 pub struct EscrowEdit {
     pub put: bool,
     pub at: usize,
     pub row: EscrowRow,
+    pub fall: u16,
 }
 
 pub struct Edits {

@@ -1,5 +1,5 @@
 use borrow.Author.Needs.{needs}
-use Rattle.escrow.specs.Narrow.{moreEscrow}
+use Rattle.state.specs.Edits.{more}
 use Rattle.escrow.proofs.escrow_more.Statement.{statement}
 use Rattle.escrow.proofs.escrow_more.Tie as tie
 
@@ -31,7 +31,7 @@ same-length : tie.Need-same-length
 same-length c = search needs
 
 returns : tie.Need-returns
-unfolding moreEscrow
+unfolding more
 returns c = rw (c .before .before .before .before .before .before .before .put .ensures, c .before .no-log-edit .ensures, c .accepted .ensures)
 
 pub escrow-more-spec : {M : Type 1} → statement M

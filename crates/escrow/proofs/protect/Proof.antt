@@ -6,7 +6,8 @@ use borrow.Author.Tests.{eq-eqb, ne-eqb, lt-ltb, le-ltb}
 use Rattle.ideal.specs.Step.{firstHolding, beyond}
 use Rattle.ideal.proofs.Table.{part-length}
 use Rattle.state.specs.Answers.{settled}
-use Rattle.escrow.specs.Narrow.{protectUnless, protectValue, protectRefusal, protectOn}
+use Rattle.state.specs.Edits.{unless}
+use Rattle.escrow.specs.Narrow.{protectValue, protectRefusal, protectOn}
 use Rattle.escrow.proofs.protect.Statement.{statement}
 use Rattle.escrow.proofs.protect.Tie as tie
 
@@ -14,14 +15,14 @@ refuse-requires : tie.Need-refuse-requires
 refuse-requires c κs = search needs
 
 returns : tie.Need-returns
-unfolding protectOn protectRefusal protectUnless firstHolding settled
+unfolding protectOn protectRefusal unless firstHolding settled
 returns c = simp (eq-eqb _ _ (c .before .if1 .taken), c .refuse .ensures)
 
 refuse-requires-2 : tie.Need-refuse-requires-2
 refuse-requires-2 c κs = search needs
 
 returns-2 : tie.Need-returns-2
-unfolding protectOn protectRefusal protectUnless firstHolding settled
+unfolding protectOn protectRefusal unless firstHolding settled
 returns-2 c = simp (ne-eqb _ _ (c .before .before .if1 .left), eq-eqb _ _ (c .before .if2 .taken), c .refuse2 .ensures)
 
 add-if3 : tie.Need-add-if3
@@ -31,7 +32,7 @@ refuse-requires-3 : tie.Need-refuse-requires-3
 refuse-requires-3 c κs = search needs
 
 returns-3 : tie.Need-returns-3
-unfolding protectOn protectRefusal protectUnless firstHolding settled beyond
+unfolding protectOn protectRefusal unless firstHolding settled beyond
 returns-3 c =
     simp (
       ne-eqb _ _ (c .before .before .before .if1 .left),

@@ -3,7 +3,8 @@ use borrow.Author.Needs.{needs}
 use borrow.Author.Tests.{le-leb, lt-leb}
 use Rattle.ideal.specs.Step.{firstHolding}
 use Rattle.state.specs.Answers.{settled}
-use Rattle.escrow.specs.Narrow.{protectUnless, protectValue}
+use Rattle.state.specs.Edits.{unless}
+use Rattle.escrow.specs.Narrow.{protectedOn, protectValue}
 use Rattle.state.proofs.Rooms.{has-room}
 use Rattle.escrow.proofs.protect_value.Statement.{statement}
 use Rattle.escrow.proofs.protect_value.Tie as tie
@@ -12,7 +13,7 @@ refuse-requires : tie.Need-refuse-requires
 refuse-requires c κs = search needs
 
 returns : tie.Need-returns
-unfolding protectValue protectUnless firstHolding settled
+unfolding protectValue protectedOn unless firstHolding settled
 returns c = simp (le-leb _ _ (c .before .if1 .taken), c .refuse .ensures)
 
 is-full-requires : tie.Need-is-full-requires
@@ -22,7 +23,7 @@ refuse-requires-2 : tie.Need-refuse-requires-2
 refuse-requires-2 c κs = search needs
 
 returns-2 : tie.Need-returns-2
-unfolding protectValue protectUnless firstHolding settled
+unfolding protectValue protectedOn unless firstHolding settled
 returns-2 c =
     let small = lt-leb _ _ (c .before .before .before .before .if1 .left) in
     simp (small, sym (c .before .before .is-full .ensures) ∙ c .before .if2 .taken, c .refuse2 .ensures)
@@ -46,7 +47,7 @@ same-length : tie.Need-same-length
 same-length c = search needs
 
 returns-3 : tie.Need-returns-3
-unfolding protectValue protectUnless firstHolding settled
+unfolding protectValue protectedOn unless firstHolding settled
 returns-3 c =
     let x = c .before .before .before .before .before .before .before .before .before .before .before .before .before .before .args in
     let small = lt-leb _ _ (c .before .before .before .before .before .before .before .before .before .before .if1 .left) in

@@ -6,7 +6,8 @@ use borrow.Author.Needs.{needs}
 use Rattle.ideal.proofs.Table.{part-length}
 use Rattle.ideal.specs.Step.{firstHolding, beyond}
 use Rattle.state.specs.Answers.{settled}
-use Rattle.log.specs.Narrow.{attested, attestValue, attestOn}
+use Rattle.state.specs.Edits.{unless}
+use Rattle.log.specs.Narrow.{attestValue, attestRefusal, attestOn}
 use Rattle.log.proofs.attest.Statement.{statement}
 use Rattle.log.proofs.attest.Tie as tie
 
@@ -14,7 +15,7 @@ refuse-requires : tie.Need-refuse-requires
 refuse-requires c κs = search needs
 
 returns : tie.Need-returns
-unfolding attestOn attested firstHolding settled
+unfolding attestOn attestRefusal unless firstHolding settled
 returns c = simp (eq-eqb _ _ (c .before .if1 .taken), c .refuse .ensures)
 
 add-if2 : tie.Need-add-if2
@@ -24,7 +25,7 @@ refuse-requires-2 : tie.Need-refuse-requires-2
 refuse-requires-2 c κs = search needs
 
 returns-2 : tie.Need-returns-2
-unfolding attestOn attested firstHolding beyond settled
+unfolding attestOn attestRefusal unless firstHolding beyond settled
 returns-2 c =
     simp (ne-eqb _ _ (c .before .before .if1 .left), lt-ltb _ _ (c .before .if2 .taken), c .refuse2 .ensures)
 
@@ -74,7 +75,7 @@ same-length : tie.Need-same-length
 same-length c = search needs
 
 returns-3 : tie.Need-returns-3
-unfolding attestOn attestValue firstHolding beyond
+unfolding attestOn attestRefusal attestValue firstHolding beyond
 returns-3 c =
     let x = c .before .before .before .before .before .before .before .before .before .before .before .before .args in
     let a = 256 * x .t1 .running + x .offset in

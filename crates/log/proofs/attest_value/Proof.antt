@@ -2,6 +2,7 @@ use mathlib.Core.Path.{sym, _∙_}
 use borrow.Author.Needs.{needs}
 use Rattle.ideal.specs.Step.{firstHolding}
 use Rattle.state.specs.Answers.{settled}
+use Rattle.state.specs.Edits.{unless}
 use Rattle.log.specs.Narrow.{attested, attestValue}
 use Rattle.state.proofs.Rooms.{has-room}
 use Rattle.log.proofs.attest_value.Statement.{statement}
@@ -23,7 +24,7 @@ same-length : tie.Need-same-length
 same-length c = search needs
 
 returns : tie.Need-returns
-unfolding attestValue attested firstHolding settled
+unfolding attestValue attested unless firstHolding settled
 returns c =
     simp (sym (c .before .before .before .in-log .ensures) ∙ c .before .before .if1 .taken, c .unedited .ensures, c .before .accepted .ensures)
 
@@ -37,7 +38,7 @@ same-length-2 : tie.Need-same-length-2
 same-length-2 c = search needs
 
 returns-2 : tie.Need-returns-2
-unfolding attestValue attested firstHolding settled
+unfolding attestValue attested unless firstHolding settled
 returns-2 c =
     simp (
       sym (c .before .before .before .before .in-log .ensures) ∙ c .before .before .before .if1 .left,
@@ -54,7 +55,7 @@ same-length-3 : tie.Need-same-length-3
 same-length-3 c = search needs
 
 returns-3 : tie.Need-returns-3
-unfolding attestValue attested firstHolding settled
+unfolding attestValue attested unless firstHolding settled
 returns-3 c =
     simp (
       sym (c .before .before .before .before .before .before .before .in-log .ensures) ∙ c .before .before .before .before .before .before .if1 .left,

@@ -1,5 +1,5 @@
 use borrow.Author.Needs.{needs}
-use Rattle.log.specs.Narrow.{moreLog}
+use Rattle.state.specs.Edits.{more}
 use Rattle.log.proofs.log_more.Statement.{statement}
 use Rattle.log.proofs.log_more.Tie as tie
 
@@ -31,7 +31,7 @@ same-length : tie.Need-same-length
 same-length c = search needs
 
 returns : tie.Need-returns
-unfolding moreLog
+unfolding more
 returns c = rw (c .before .before .before .before .before .before .before .put .ensures, c .before .no-escrow-edit .ensures, c .accepted .ensures)
 
 pub log-more-spec : {M : Type 1} → statement M

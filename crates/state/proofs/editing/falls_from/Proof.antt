@@ -1,0 +1,16 @@
+use borrow.Author.Tests.{eq-eqb, ne-eqb}
+use borrow.Author.Needs.{needs}
+use Rattle.state.proofs.editing.falls_from.Statement.{statement}
+use Rattle.state.proofs.editing.falls_from.Tie as tie
+
+returns : tie.Need-returns
+returns c = rw (eq-eqb _ _ (c .if1 .taken))
+
+add-result : tie.Need-add-result
+add-result c = search needs
+
+returns-2 : tie.Need-returns-2
+returns-2 c = rw (ne-eqb _ _ (c .if1 .left))
+
+pub falls-from-spec : {M : Type 1} → statement M
+falls-from-spec = tie.close (tie.spec returns add-result returns-2)
