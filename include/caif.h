@@ -34,11 +34,10 @@ extern "C" {
 #define CAIF_RECORD 65555       /* the longest record: a check of 65,535 bytes */
 #define CAIF_DRAWS 281474976710656 /* a draw is below this, 2^48; a handle is length * 2^48 + draw */
 
-/* Kinds of calls. After each, the fields of its record, in the record's order. */
+/* Kinds of calls. After each, the fields of its record, in the record's order. Kinds 2 and 3, start and yield, are
+ * retired: hand over took their place. The two numbers stay reserved and get no other meaning. */
 enum caif_kind {
     CAIF_CREATE = 1,       /* place, identity */
-    CAIF_START = 2,        /* place */
-    CAIF_YIELD = 3,        /* none */
     CAIF_EXIT = 4,         /* none */
     CAIF_HEAP_WRITE = 5,   /* place, offset, bytes */
     CAIF_HEAP_READ = 6,    /* place, offset, length */
@@ -48,20 +47,22 @@ enum caif_kind {
     CAIF_CHECK = 10,       /* identity, number (the tag), bytes; answers 1 or 0 */
     CAIF_PROTECT = 11,     /* identity (the recipient), offset, length, number (the draw); answers the handle */
     CAIF_RETRIEVE = 12,    /* identity (the source), offset, number (the handle); answers the length */
-    CAIF_REPORT = 13       /* none; answers services + 256 * log rows + 65,536 * escrow rows */
+    CAIF_REPORT = 13,      /* none; answers services + 256 * log rows + 65,536 * escrow rows */
+    CAIF_HAND_OVER = 14    /* place: it runs next, and none where it is CAIF_NONE; a refusal leaves what runs */
 };
 
 /* Codes. A refusal has number 0, shows nothing and alters nothing. Where conditions of several hold, the order is
- * 15; then empty record 1, bit 0 of the map down 2, no kind byte 1, kind 2, map 3, cut field 1; then rising numbers. */
+ * 15; then empty record 1, bit 0 of the map down 2, no kind byte 1, kind 2, map 3, cut field 1; then rising numbers.
+ * Code 5, one already runs, is retired with start: no call gives it, and the number stays reserved and gets no other
+ * meaning. */
 enum caif_code {
     CAIF_ACCEPTED = 0,
     CAIF_CUT = 1,            /* the record ends before a field does, or is empty */
-    CAIF_UNKNOWN_KIND = 2,   /* bit 0 of the map is down, or the kind is not one of the thirteen */
+    CAIF_UNKNOWN_KIND = 2,   /* bit 0 of the map is down, or the kind is 0, 2, 3 or 15 to 255 */
     CAIF_WRONG_MAP = 3,      /* the map is not the kind's */
-    CAIF_NONE_RUNS = 4,      /* yield, exit, heap write, heap read, attest, protect, retrieve */
-    CAIF_ONE_RUNS = 5,       /* start */
-    CAIF_NO_PLACE = 6,       /* place above 15: create, start, heap write, heap read */
-    CAIF_PLACE_STATE = 7,    /* place taken (create) or empty (start) */
+    CAIF_NONE_RUNS = 4,      /* exit, heap write, heap read, attest, protect, retrieve */
+    CAIF_NO_PLACE = 6,       /* place above 15: create, heap write, heap read; above 16: hand over */
+    CAIF_PLACE_STATE = 7,    /* place taken (create), or 0 to 15 and empty (hand over) */
     CAIF_NOT_RUNNING = 8,    /* the place is not the running one: heap write, heap read */
     CAIF_IDENTITY_ZERO = 9,  /* create, check, protect, retrieve */
     CAIF_NO_ROW = 10,        /* no such escrow row: retrieve */

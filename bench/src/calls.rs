@@ -5,11 +5,11 @@ use std::sync::atomic::{AtomicU64, Ordering};
 use std::time::{Duration, Instant};
 
 use differential::calls::{
-    attest, check, create, heap_read, heap_write, protect, record_of, retrieve, shared_read,
-    shared_write, start,
+    attest, check, create, hand_over, heap_read, heap_write, protect, record_of, retrieve,
+    shared_read, shared_write,
 };
 use interface::Sides;
-use second::{tag_of, Call, Host, DRAW_LIMIT, OUTPUT_SIZE};
+use second::{tag_of, Call, Host, DRAW_LIMIT, NONE_RUNS, OUTPUT_SIZE};
 
 use crate::table;
 
@@ -95,15 +95,13 @@ fn add_soundness(cases: &mut Vec<Case>) {
 fn add_empty(cases: &mut Vec<Case>) {
     let fresh = Host::fresh();
     let created = after(fresh.clone(), &[create(0, 1)]);
-    let running = after(created.clone(), &[start(0)]);
+    let running = after(created.clone(), &[hand_over(0)]);
     let escrowed = after(running.clone(), &[protect(1, 0, 64, 7)]);
     let bytes = [5; 1_024];
     let mut add = |name: &str, host: &Host, call: Call| {
         cases.push(Case::new("empty box", name, host, 0, record_of(&call)));
     };
     add("create", &fresh, create(0, 1));
-    add("start", &created, start(0));
-    add("yield", &running, Call::Yield);
     add("exit", &running, Call::Exit);
     add("heap write, 256 bytes", &running, heap_write(0, 0, &bytes[..256]));
     add("heap read, 256 bytes", &running, heap_read(0, 0, 256));
@@ -114,20 +112,20 @@ fn add_empty(cases: &mut Vec<Case>) {
     add("protect, 64 bytes", &running, protect(1, 0, 64, 7));
     add("retrieve, 64 bytes", &escrowed, retrieve(1, 0, 64 * DRAW_LIMIT + 7));
     add("report", &fresh, Call::Report);
+    add("hand over, none runs", &created, hand_over(0));
+    add("hand over to 16", &running, hand_over(NONE_RUNS));
 }
 
 fn add_full(cases: &mut Vec<Case>) {
     let stopped = full(16, 64);
-    let running = after(stopped.clone(), &[start(15)]);
-    let one_left = after(full(16, 63), &[start(15)]);
+    let running = after(stopped.clone(), &[hand_over(15)]);
+    let one_left = after(full(16, 63), &[hand_over(15)]);
     let bytes = [5; 1_024];
     let value = value(63);
     let mut add = |name: &str, host: &Host, code: u8, call: Call| {
         cases.push(Case::new("full box", name, host, code, record_of(&call)));
     };
     add("create, 15 services before", &full(15, 64), 0, create(15, 16));
-    add("start", &stopped, 0, start(15));
-    add("yield", &running, 0, Call::Yield);
     add("exit", &running, 0, Call::Exit);
     add("heap write, 256 bytes", &running, 0, heap_write(15, 0, &bytes[..256]));
     add("heap read, 256 bytes", &running, 0, heap_read(15, 0, 256));
@@ -141,6 +139,9 @@ fn add_full(cases: &mut Vec<Case>) {
     add("protect, refused 14", &running, 14, protect(1, 64, 64, 0));
     add("retrieve, the last row", &running, 0, retrieve(16, 0, 64 * DRAW_LIMIT + 63));
     add("report", &running, 0, Call::Report);
+    add("hand over, none runs", &stopped, 0, hand_over(15));
+    add("hand over to another place", &running, 0, hand_over(7));
+    add("hand over to 16", &running, 0, hand_over(NONE_RUNS));
 }
 
 /// The n-th value of 64 bytes that is logged and escrowed. All are of one
@@ -157,18 +158,16 @@ fn full(services: u8, rows: u8) -> Host {
     let mut host = Host::fresh();
     for place in 0..services {
         let identity = 16 - (u64::from(services) - 1 - u64::from(place));
-        let calls =
-            [create(place, identity), start(place), heap_write(place, 0, &[3; 256]), Call::Yield];
+        let calls = [create(place, identity), hand_over(place), heap_write(place, 0, &[3; 256])];
         host = after(host, &calls);
     }
     let place = services - 1;
-    host = after(host, &[start(place)]);
     for n in 0..rows {
         let value = value(n);
         let calls = [heap_write(place, 0, &value), attest(0, 64), protect(16, 0, 64, u64::from(n))];
         host = after(host, &calls);
     }
-    after(host, &[Call::Yield])
+    after(host, &[hand_over(NONE_RUNS)])
 }
 
 /// The box after these calls, which are accepted.

@@ -1,4 +1,4 @@
-/* Document 01's example, and then every other kind of call. */
+/* The example paper, then every other kind of call, then hand overs of each sort. */
 #include "host.h"
 
 #define HANDLE 281474976710663u      /* of length 1 and draw 7 */
@@ -77,6 +77,38 @@ static void exited(struct host *host)
     host->heaps[255] = 0;
 }
 
+static void created_2(struct host *host)
+{
+    host->held.taken = 4;
+    host->held.identities[2] = 3;
+}
+
+static void created_15(struct host *host)
+{
+    host->held.taken = 0x8004;
+    host->held.identities[15] = 4;
+}
+
+static void started_2(struct host *host)
+{
+    host->held.running = 2;
+}
+
+static void started_15(struct host *host)
+{
+    host->held.running = 15;
+}
+
+static void heap_2_written(struct host *host)
+{
+    host->heaps[512] = 0x43;
+}
+
+static void heap_2_shown(struct host *host)
+{
+    host->output[0] = 0x43;
+}
+
 /* A call: how it is written, its record, its answer, and what it alters. All of the record is used. */
 struct step {
     uint8_t kind;
@@ -97,19 +129,19 @@ struct step {
 
 static const struct step example[] = {
     {CAIF_CREATE, FIELDS(.identity = 1), RECORD(0x07, 0x01, 0, 1, 0, 0, 0, 0, 0, 0, 0), .alters = created},
-    {CAIF_START, FIELDS(.place = 0), RECORD(0x03, 0x02, 0), .alters = started},
+    {CAIF_HAND_OVER, FIELDS(.place = 0), RECORD(0x03, 0x0E, 0), .alters = started},
     {CAIF_HEAP_WRITE, FIELDS(.place = 0), ONE_BYTE(0x41), RECORD(0x4B, 0x05, 0, 0, 0, 1, 0, 0x41), .number = 1,
      .alters = heap_written},
     {CAIF_PROTECT, FIELDS(.identity = 1, .length = 1, .number = 7),
      RECORD(0x3D, 0x0B, 1, 0, 0, 0, 0, 0, 0, 0, 0, 0, 1, 0, 7, 0, 0, 0, 0, 0, 0, 0), .number = HANDLE,
      .alters = protected},
     {CAIF_REPORT, FIELDS(.place = 0), RECORD(0x01, 0x0D), .number = 65537, .alters = nothing},
-    {CAIF_YIELD, FIELDS(.place = 0), RECORD(0x01, 0x03), .alters = yielded},
-    {CAIF_YIELD, FIELDS(.place = 0), RECORD(0x01, 0x03), .code = CAIF_NONE_RUNS, .alters = nothing},
+    {CAIF_HAND_OVER, FIELDS(.place = CAIF_NONE), RECORD(0x03, 0x0E, 0x10), .alters = yielded},
+    {CAIF_EXIT, FIELDS(.place = 0), RECORD(0x01, 0x04), .code = CAIF_NONE_RUNS, .alters = nothing},
 };
 
 static const struct step other_kinds[] = {
-    {CAIF_START, FIELDS(.place = 0), RECORD(0x03, 0x02, 0), .alters = started},
+    {CAIF_HAND_OVER, FIELDS(.place = 0), RECORD(0x03, 0x0E, 0), .alters = started},
     {CAIF_ATTEST, FIELDS(.length = 1), RECORD(0x19, 0x09, 0, 0, 1, 0), .number = TAG, .alters = attested},
     {CAIF_CHECK, FIELDS(.identity = 1, .number = TAG), ONE_BYTE(0x41),
      RECORD(0x65, 0x0A, 1, 0, 0, 0, 0, 0, 0, 0, 0x1F, 0xA2, 0xF5, 0x8F, 0xDC, 0x6D, 0x9A, 0x52, 1, 0, 0x41),
@@ -124,6 +156,30 @@ static const struct step other_kinds[] = {
      .shown = 2, .alters = shared_shown},
     {CAIF_REPORT, FIELDS(.place = 0), RECORD(0x01, 0x0D), .number = 65793, .alters = nothing},
     {CAIF_EXIT, FIELDS(.place = 0), RECORD(0x01, 0x04), .alters = exited},
+};
+
+/* After an exit: to 16 and refused while none runs; to a place, to the running one, to another, refused and to 16
+ * while one runs. What ran keeps its heap. */
+static const struct step hand_overs[] = {
+    {CAIF_HAND_OVER, FIELDS(.place = CAIF_NONE), RECORD(0x03, 0x0E, 0x10), .alters = nothing},
+    {CAIF_HAND_OVER, FIELDS(.place = 0), RECORD(0x03, 0x0E, 0), .code = CAIF_PLACE_STATE, .alters = nothing},
+    {CAIF_HAND_OVER, FIELDS(.place = 17), RECORD(0x03, 0x0E, 0x11), .code = CAIF_NO_PLACE, .alters = nothing},
+    {CAIF_CREATE, FIELDS(.place = 2, .identity = 3), RECORD(0x07, 0x01, 2, 3, 0, 0, 0, 0, 0, 0, 0), .number = 2,
+     .alters = created_2},
+    {CAIF_CREATE, FIELDS(.place = 15, .identity = 4), RECORD(0x07, 0x01, 15, 4, 0, 0, 0, 0, 0, 0, 0), .number = 15,
+     .alters = created_15},
+    {CAIF_HAND_OVER, FIELDS(.place = 2), RECORD(0x03, 0x0E, 2), .alters = started_2},
+    {CAIF_HEAP_WRITE, FIELDS(.place = 2), ONE_BYTE(0x43), RECORD(0x4B, 0x05, 2, 0, 0, 1, 0, 0x43), .number = 1,
+     .alters = heap_2_written},
+    {CAIF_HAND_OVER, FIELDS(.place = 2), RECORD(0x03, 0x0E, 2), .alters = nothing},
+    {CAIF_HAND_OVER, FIELDS(.place = 0), RECORD(0x03, 0x0E, 0), .code = CAIF_PLACE_STATE, .alters = nothing},
+    {CAIF_HAND_OVER, FIELDS(.place = 17), RECORD(0x03, 0x0E, 0x11), .code = CAIF_NO_PLACE, .alters = nothing},
+    {CAIF_HAND_OVER, FIELDS(.place = 255), RECORD(0x03, 0x0E, 0xFF), .code = CAIF_NO_PLACE, .alters = nothing},
+    {CAIF_HAND_OVER, FIELDS(.place = 15), RECORD(0x03, 0x0E, 15), .alters = started_15},
+    {CAIF_HAND_OVER, FIELDS(.place = 2), RECORD(0x03, 0x0E, 2), .alters = started_2},
+    {CAIF_HEAP_READ, FIELDS(.place = 2, .length = 1), RECORD(0x1B, 0x06, 2, 0, 0, 1, 0), .number = 1, .shown = 1,
+     .alters = heap_2_shown},
+    {CAIF_HAND_OVER, FIELDS(.place = CAIF_NONE), RECORD(0x03, 0x0E, 0x10), .alters = yielded},
 };
 
 #define COUNT(table) (sizeof(table) / sizeof *(table))
@@ -193,4 +249,5 @@ void check_calls(void)
     check_host(&host, &zeros, "a fresh box");
     check_steps(&host, example, COUNT(example), "the example");
     check_steps(&host, other_kinds, COUNT(other_kinds), "other kinds");
+    check_steps(&host, hand_overs, COUNT(hand_overs), "hand overs");
 }

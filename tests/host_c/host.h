@@ -43,7 +43,7 @@ void check_host(const struct host *is, const struct host *wanted, const char *la
 void check_reply(const struct caif_reply *reply, uint8_t code, uint64_t number, size_t used, uint16_t shown,
                  const char *label);
 
-/* Document 01's example on a fresh box, with no assertions. */
+/* The example on a fresh box, with no assertions. */
 void run_example(struct host *host);
 
 void check_layout(void);

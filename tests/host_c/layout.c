@@ -1,4 +1,4 @@
-/* Size, alignment and offsets of each struct, as the header says. */
+/* Size, alignment and offsets of each struct, sizes, kinds and codes, as the header says. */
 #include "host.h"
 
 #define SIZE(type, size, align)                                                   \
@@ -64,9 +64,82 @@ static void check_sizes(void)
     check(CAIF_DRAWS == (uint64_t)1 << 48, "sizes", "draws");
 }
 
+/* Whether it is one of the kinds. A kind more in the header makes the compiler warn of this. */
+static int is_kind(enum caif_kind kind)
+{
+    switch (kind) {
+    case CAIF_CREATE:
+    case CAIF_EXIT:
+    case CAIF_HEAP_WRITE:
+    case CAIF_HEAP_READ:
+    case CAIF_SHARED_WRITE:
+    case CAIF_SHARED_READ:
+    case CAIF_ATTEST:
+    case CAIF_CHECK:
+    case CAIF_PROTECT:
+    case CAIF_RETRIEVE:
+    case CAIF_REPORT:
+    case CAIF_HAND_OVER:
+        return 1;
+    }
+    return 0;
+}
+
+/* Whether it is one of the codes. */
+static int is_code(enum caif_code code)
+{
+    switch (code) {
+    case CAIF_ACCEPTED:
+    case CAIF_CUT:
+    case CAIF_UNKNOWN_KIND:
+    case CAIF_WRONG_MAP:
+    case CAIF_NONE_RUNS:
+    case CAIF_NO_PLACE:
+    case CAIF_PLACE_STATE:
+    case CAIF_NOT_RUNNING:
+    case CAIF_IDENTITY_ZERO:
+    case CAIF_NO_ROW:
+    case CAIF_BEYOND:
+    case CAIF_DRAW:
+    case CAIF_LOG_FULL:
+    case CAIF_ESCROW_FULL:
+    case CAIF_NOT_SOUND:
+    case CAIF_TOO_LONG:
+    case CAIF_NO_ROOM:
+        return 1;
+    }
+    return 0;
+}
+
+/* The numbers of the kinds. None has 2 or 3, which are retired. */
+static void check_kinds(void)
+{
+    check(!is_kind((enum caif_kind)2) && !is_kind((enum caif_kind)3), "kinds", "2 and 3 are reserved");
+    check(CAIF_CREATE == 1 && CAIF_EXIT == 4 && CAIF_HAND_OVER == 14, "kinds", "service life");
+    check(CAIF_HEAP_WRITE == 5 && CAIF_HEAP_READ == 6, "kinds", "heap");
+    check(CAIF_SHARED_WRITE == 7 && CAIF_SHARED_READ == 8, "kinds", "shared memory");
+    check(CAIF_ATTEST == 9 && CAIF_CHECK == 10, "kinds", "the log");
+    check(CAIF_PROTECT == 11 && CAIF_RETRIEVE == 12 && CAIF_REPORT == 13, "kinds", "the escrow and the report");
+}
+
+/* The numbers of the codes. None has 5, which is retired. */
+static void check_codes(void)
+{
+    check(!is_code((enum caif_code)5), "codes", "5 is reserved");
+    check(CAIF_ACCEPTED == 0, "codes", "accepted");
+    check(CAIF_CUT == 1 && CAIF_UNKNOWN_KIND == 2 && CAIF_WRONG_MAP == 3, "codes", "the record's");
+    check(CAIF_NONE_RUNS == 4 && CAIF_NO_PLACE == 6 && CAIF_PLACE_STATE == 7 && CAIF_NOT_RUNNING == 8, "codes",
+          "places");
+    check(CAIF_IDENTITY_ZERO == 9 && CAIF_NO_ROW == 10 && CAIF_BEYOND == 11 && CAIF_DRAW == 12, "codes", "fields");
+    check(CAIF_LOG_FULL == 13 && CAIF_ESCROW_FULL == 14, "codes", "full tables");
+    check(CAIF_NOT_SOUND == 15 && CAIF_TOO_LONG == 16 && CAIF_NO_ROOM == 17, "codes", "the host's");
+}
+
 void check_layout(void)
 {
     check_sizes();
+    check_kinds();
+    check_codes();
     check_held();
     check_rows();
     check_answers();

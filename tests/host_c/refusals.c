@@ -63,10 +63,16 @@ static void check_records(void)
     refused(&host, &right_sizes, report, 0, CAIF_CUT, 0, "no record");
     REFUSED(CAIF_CUT, 0, "no kind byte", 0x01);
     REFUSED(CAIF_UNKNOWN_KIND, 0, "no kind", 0x02);
-    REFUSED(CAIF_UNKNOWN_KIND, 0, "kind 14", 0x01, 0x0E);
+    REFUSED(CAIF_UNKNOWN_KIND, 0, "kind 15", 0x01, 0x0F);
+    REFUSED(CAIF_UNKNOWN_KIND, 0, "kind 2, retired", 0x03, 0x02, 0);
+    REFUSED(CAIF_UNKNOWN_KIND, 0, "kind 2, retired, cut", 0x03, 0x02);
+    REFUSED(CAIF_UNKNOWN_KIND, 0, "kind 3, retired", 0x01, 0x03);
     REFUSED(CAIF_WRONG_MAP, 0, "another map", 0x03, 0x0D, 0);
-    REFUSED(CAIF_NONE_RUNS, 2, "yield while none runs", 0x01, 0x03, 0xFF);
-    REFUSED(CAIF_NO_PLACE, 3, "place 16", 0x03, 0x02, 16);
+    REFUSED(CAIF_WRONG_MAP, 0, "hand over with another map", 0x01, 0x0E);
+    REFUSED(CAIF_CUT, 0, "hand over cut", 0x03, 0x0E);
+    REFUSED(CAIF_NONE_RUNS, 2, "exit while none runs", 0x01, 0x04, 0xFF);
+    REFUSED(CAIF_NO_PLACE, 3, "hand over to 17", 0x03, 0x0E, 17);
+    REFUSED(CAIF_PLACE_STATE, 3, "hand over to an empty place", 0x03, 0x0E, 1);
 }
 
 static void not_written(uint8_t kind, size_t bytes_size, size_t out_size, uint8_t code, const char *label)
@@ -86,8 +92,11 @@ static void check_writer(void)
     not_written(CAIF_CREATE, 0, 10, CAIF_NO_ROOM, "a create in 10 bytes");
     not_written(CAIF_REPORT, 0, 0, CAIF_NO_ROOM, "a report in no bytes");
     not_written(CAIF_HEAP_WRITE, 65536, 70000, CAIF_NO_ROOM, "65,536 bytes");
+    not_written(CAIF_HAND_OVER, 0, 2, CAIF_NO_ROOM, "a hand over in 2 bytes");
     not_written(0, 0, 64, CAIF_UNKNOWN_KIND, "kind 0");
-    not_written(14, 0, 0, CAIF_UNKNOWN_KIND, "kind 14 in no bytes");
+    not_written(2, 0, 64, CAIF_UNKNOWN_KIND, "kind 2, retired");
+    not_written(3, 0, 0, CAIF_UNKNOWN_KIND, "kind 3, retired, in no bytes");
+    not_written(15, 0, 0, CAIF_UNKNOWN_KIND, "kind 15 in no bytes");
 }
 
 void check_refusals(void)

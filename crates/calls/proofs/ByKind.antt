@@ -3,7 +3,7 @@ use Prim.Native.Nat.{ℕ, zero, suc}
 use mathlib.Core.Path.{_≡_, refl, sym, ap, _∙_}
 use mathlib.Core.List.{List, []}
 use Rattle.record.specs.declared.Call as code
-use Rattle.record.specs.declared.Call.the-variants.{Create, Start, Yield, Exit, HeapWrite, HeapRead, SharedWrite, SharedRead, Attest, Check, Protect, Retrieve, Report}
+use Rattle.record.specs.declared.Call.the-variants.{Create, Exit, HeapWrite, HeapRead, SharedWrite, SharedRead, Attest, Check, Protect, Retrieve, Report, HandOver}
 use Rattle.record.specs.Call.{Call}
 use Rattle.record.specs.Meaning.{bytesIn, callIn}
 use Rattle.ideal.specs.Step.{step}
@@ -19,8 +19,8 @@ use Rattle.state.specs.Answers.{settled, showed}
 use Rattle.state.proofs.Settled.{answerOf, ShowsNone, answered-alone}
 use Rattle.state.proofs.Showing.{Shows}
 use Rattle.state.proofs.Stores.{onLog, onEscrow}
-use Rattle.services.specs.Narrow.{createOn, startOn, yieldOn, exitOn, exitHeaps, reportOn}
-use Rattle.services.proofs.Bridge.{replacePlaces, create-step, start-step, yield-step, exit-step, report-step}
+use Rattle.services.specs.Narrow.{createOn, exitOn, exitHeaps, reportOn, handOverOn}
+use Rattle.services.proofs.Bridge.{replacePlaces, create-step, exit-step, report-step, hand-over-step}
 use Rattle.shared.specs.Narrow.{sharedWriteAnswer, sharedWriteShared, sharedReadAnswer, sharedReadOutput}
 use Rattle.shared.proofs.Bridge.{shared-write-step, shared-read-step}
 use Rattle.heap.specs.Narrow.{heapWriteAnswer, heapWriteHeaps, heapReadAnswer, heapReadOutput}
@@ -44,8 +44,6 @@ repliedBox t r heaps output = replied (replacePlaces t (r .held) heaps) (r .answ
 
 unfoldable pub byKind : Tables → (output bytes : List ℕ) → code.Call → EntryResult
 byKind t output bytes (Create p i) = repliedBox t (createOn (t .box) p i) (t .heaps) output
-byKind t output bytes (Start p) = repliedBox t (startOn (t .box) p) (t .heaps) output
-byKind t output bytes Yield = repliedBox t (yieldOn (t .box)) (t .heaps) output
 byKind t output bytes Exit = repliedBox t (exitOn (t .box)) (exitHeaps (t .box) (t .heaps)) output
 byKind t output bytes (HeapWrite p o part) =
     let v = bytesIn bytes part in
@@ -68,6 +66,7 @@ byKind t output bytes (Retrieve i o h) =
     replied (replaceHeaps t (retrieveHeaps (t .box) (t .escrowRows) (t .heaps) (t .escrowValues) i o h))
     (retrieveAnswer (t .box) (t .escrowRows) (t .escrowValues) i o h) output
 byKind t output bytes Report = replied t (reportOn (t .box)) output
+byKind t output bytes (HandOver p) = repliedBox t (handOverOn (t .box) p) (t .heaps) output
 
 -- ---- bytes shown: none but by the reads
 
@@ -95,14 +94,12 @@ shows-bytes t c a before after u s =
       output = s .output j;
     }
 
--- ---- the thirteen kinds
+-- ---- each kind
 
 module _ (t : Tables) (k : Valid (stateOf t)) (e : tables (stateOf t) ≡ t) (output bytes : List ℕ) where
   by-kind-valid : (c : code.Call) → byKind t output bytes c ≡ carriedOn t (callIn bytes c) output
-  unfolding byKind callIn carriedOn createOn startOn yieldOn exitOn heapWriteAnswer heapReadAnswer sharedWriteAnswer sharedReadAnswer checkOn retrieveAnswer reportOn
+  unfolding byKind callIn carriedOn createOn exitOn heapWriteAnswer heapReadAnswer sharedWriteAnswer sharedReadAnswer checkOn retrieveAnswer reportOn handOverOn
   by-kind-valid (Create p i) = shows-none _ _ output (create-step t k e p i 0) (answered-alone _ _)
-  by-kind-valid (Start p) = shows-none _ _ output (start-step t k e p 0) (answered-alone _ _)
-  by-kind-valid Yield = shows-none _ _ output (yield-step t k e 0) (answered-alone _ _)
   by-kind-valid Exit = shows-none _ _ output (exit-step t k e 0) (answered-alone _ _)
   by-kind-valid (HeapWrite p o part) =
       shows-none _ _ output (heap-write-step t k e p o (bytesIn bytes part) 0) (answered-alone _ _)
@@ -115,6 +112,7 @@ module _ (t : Tables) (k : Valid (stateOf t)) (e : tables (stateOf t) ≡ t) (ou
   by-kind-valid (Protect i o n d) = shows-none _ _ output (protect-step t k e i o n d 0) (protect-alone (t .box) _ _ _ i o n d)
   by-kind-valid (Retrieve i o h) = shows-none _ _ output (retrieve-step t k e i o h 0) (answered-alone _ _)
   by-kind-valid Report = shows-none _ _ output (report-step t k e 0) (answered-alone _ _)
+  by-kind-valid (HandOver p) = shows-none _ _ output (hand-over-step t k e p 0) (answered-alone _ _)
 
 -- what is as `byKind` says is the laid-out step
 pub by-kind : {x : EntryResult} {t : Tables} {n : ℕ} → Sound t n → (output bytes : List ℕ) (c : code.Call)

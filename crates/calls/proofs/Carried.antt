@@ -7,7 +7,7 @@ use Rattle.record.specs.declared.Draw.{Draw}
 use Rattle.record.specs.declared.Handle.{Handle}
 use Rattle.record.specs.declared.Part.{Part}
 use Rattle.record.specs.declared.Call as code
-use Rattle.record.specs.declared.Call.the-variants.{Create, Start, Yield, Exit, HeapWrite, HeapRead, SharedWrite, SharedRead, Attest, Check, Protect, Retrieve, Report}
+use Rattle.record.specs.declared.Call.the-variants.{Create, Exit, HeapWrite, HeapRead, SharedWrite, SharedRead, Attest, Check, Protect, Retrieve, Report, HandOver}
 use Rattle.record.specs.Meaning.{bytesIn, callIn}
 use Rattle.ideal.specs.declared.BoxRecord.{BoxRecord}
 use Rattle.ideal.specs.Layouts.{Sound}
@@ -17,7 +17,7 @@ use Rattle.state.specs.declared.Answer.{Answer}
 use Rattle.state.specs.declared.Change.{Change}
 use Rattle.state.specs.Answers.{settled}
 use Rattle.state.specs.Edits.{unchanged, EditsBy, Stored, stored}
-use Rattle.services.specs.Narrow.{createOn, startOn, yieldOn, exitOn, exitHeaps, reportOn}
+use Rattle.services.specs.Narrow.{createOn, exitOn, exitHeaps, reportOn, handOverOn}
 use Rattle.shared.specs.Narrow.{sharedWriteAnswer, sharedWriteShared, sharedReadAnswer, sharedReadOutput}
 use Rattle.heap.specs.Narrow.{heapWriteAnswer, heapWriteHeaps, heapReadAnswer, heapReadOutput}
 use Rattle.log.specs.Narrow.{attestOn, checkOn}
@@ -106,13 +106,9 @@ module _
       unfolding byKind createOn
       created e g = (by-kind s output bytes called (rw (e, g)), rw g (counts-kept _ b _ refl refl))
 
-      pub started : {p : ℕ} → called ≡ Start p → r ≡ startOn b p → Carries r heaps shared lv ev output
-      unfolding byKind startOn
-      started e g = (by-kind s output bytes called (rw (e, g)), rw g (counts-kept _ b _ refl refl))
-
-      pub yielded : called ≡ Yield → r ≡ yieldOn b → Carries r heaps shared lv ev output
-      unfolding byKind yieldOn
-      yielded e g = (by-kind s output bytes called (rw (e, g)), rw g (counts-kept _ b _ refl refl))
+      pub handed-over : {p : ℕ} → called ≡ HandOver p → r ≡ handOverOn b p → Carries r heaps shared lv ev output
+      unfolding byKind handOverOn
+      handed-over e g = (by-kind s output bytes called (rw (e, g)), rw g (counts-kept _ b _ refl refl))
 
       pub exited : {left : List ℕ} → called ≡ Exit → r ≡ exitOn b → left ≡ exitHeaps b heaps → Carries r left shared lv ev output
       unfolding byKind exitOn

@@ -1,4 +1,4 @@
-// The thirteen kinds, each to the function that carries it out.
+// The kinds, each to the function that carries it out.
 ghost use mathlib.Core.Path.{_≡_};
 ghost use lib.ListN.{length};
 ghost use Rattle.record.specs.Meaning.{bytesIn, callIn, PartWithin, CallWithin};
@@ -18,9 +18,8 @@ use record::Part;
 use retrieval::retrieve;
 use services::create;
 use services::exit_running;
+use services::hand_over;
 use services::report;
-use services::start;
-use services::yield_running;
 use shared::shared_read;
 use shared::shared_write;
 use state::Answer;
@@ -119,8 +118,6 @@ pub fn carry_out(
 {
     match called {
         Call::Create { place, identity } => create(held, place, identity),
-        Call::Start { place } => start(held, place),
-        Call::Yield => yield_running(held),
         Call::Exit => exit_running(held, heaps),
         Call::Attest { offset, length } => attest(held, log, heaps, log_values, offset, length),
         Call::Protect {
@@ -129,6 +126,7 @@ pub fn carry_out(
             length,
             draw,
         } => protect(held, escrow, heaps, escrow_values, to, offset, length, draw),
+        Call::HandOver { place } => hand_over(held, place),
         _ => {
             let a = answer_alone(
                 held,

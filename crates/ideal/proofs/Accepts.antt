@@ -3,7 +3,7 @@ use Prim.Native.Nat.{ℕ}
 use mathlib.Core.Path.{_≡_, refl, sym, ap, _∙_}
 use mathlib.Core.Bool.{_&&_, false≢true}
 use native.Mathlib.Omega.{arith}
-use Rattle.record.specs.Call.{Call, create, start, yield, exit, heapWrite, heapRead, sharedWrite, sharedRead, attest, check, protect, retrieve, report}
+use Rattle.record.specs.Call.{Call, create, exit, heapWrite, heapRead, sharedWrite, sharedRead, attest, check, protect, retrieve, report, handOver}
 use Rattle.record.specs.Read.{whole, read}
 use Rattle.record.specs.Write.{filled}
 use Rattle.ideal.specs.State.{State, any}
@@ -63,8 +63,6 @@ on-state t e c used y z =
 answered : (s : State) (c : Call) (used : ℕ) → Valid s → refusal s c ≡ 0 → Answered (tables s) c used (accepted s c used .answer)
 unfolding accepted number shown plainNumber tables boxRecord oneOf any filled
 answered s (create p i) used k r = record { number = λ n e. cc; used = refl; shown = λ h. refl }
-answered s (start p) used k r = record { number = λ n e. cc; used = refl; shown = λ h. refl }
-answered s yield used k r = record { number = λ n e. cc; used = refl; shown = λ h. refl }
 answered s exit used k r = record { number = λ n e. cc; used = refl; shown = λ h. refl }
 answered s (heapWrite p o v) used k r = record { number = λ n e. cc; used = refl; shown = λ h. refl }
 answered s (heapRead p o m) used k r = record { number = λ n e. cc; used = refl; shown = λ h. absurd (false≢true (sym h)) }
@@ -78,6 +76,7 @@ answered s (check i g v) used k r = record { number = λ n e. cc; used = refl; s
 answered s (protect i o m d) used k r = record { number = λ n e. cc; used = refl; shown = λ h. refl }
 answered s (retrieve i o h) used k r = record { number = λ n e. cc; used = refl; shown = λ h. refl }
 answered s report used k r = record { number = λ n e. cc; used = refl; shown = λ h. refl }
+answered s (handOver p) used k r = record { number = λ n e. cc; used = refl; shown = λ h. refl }
 
 pub accepted-answers : AcceptedAnswers callOn
 unfolding laid

@@ -10,7 +10,7 @@ use lib.ListN.{length, getD}
 use lib.Dec.{eqb, ltb}
 use borrow.Author.Tests.{eqb-false, ltb-false}
 use Rattle.record.specs.declared.Handle.{Handle}
-use Rattle.record.specs.Call.{Call, create, start, yield, exit, heapWrite, heapRead, sharedWrite, sharedRead, attest, check, protect, retrieve, report}
+use Rattle.record.specs.Call.{Call, create, exit, heapWrite, heapRead, sharedWrite, sharedRead, attest, check, protect, retrieve, report, handOver}
 use Rattle.record.specs.Write.{filled}
 use Rattle.ideal.specs.declared.EscrowRow.{EscrowRow}
 use Rattle.ideal.specs.State.{Entry, Escrowed, State, caller, any, find}
@@ -61,12 +61,10 @@ module _ (s : State) (back : stateOf (tables s) ≡ s) (valid : Valid s) where
   -- a call's refusal is the first of its conditions that holds
   pub call-first : (c : Call) → refusal s c ≡ firstOf (callConditions (tables s) c)
   unfolding refusal tests firstHolding firstOf callConditions filled oneOf any idle vacant beyond full tables boxRecord isMissing absent lengthIn valueIn
-  call-first (create p i) = rw (taken-at (s .identities) p, or-nil (not (eqb (getD (s .identities) p 0) 0)))
-  call-first (start p) = rw (taken-at (s .identities) p, Bool·not-not (eqb (getD (s .identities) p 0) 0))
-  call-first yield = refl
+  call-first (create p i) = rw (taken-at (s .identities) p, or-nil (ltb 15 p), or-nil (not (eqb (getD (s .identities) p 0) 0)))
   call-first exit = refl
-  call-first (heapWrite p o w) = rw (zero-add (length w), or-nil (ltb 256 (o + length w)))
-  call-first (heapRead p o n) = rw (add-zero n, or-nil (ltb 256 (o + n)))
+  call-first (heapWrite p o w) = rw (zero-add (length w), or-nil (ltb 15 p), or-nil (ltb 256 (o + length w)))
+  call-first (heapRead p o n) = rw (add-zero n, or-nil (ltb 15 p), or-nil (ltb 256 (o + n)))
   call-first (sharedWrite o w) = rw (zero-add (length w), or-nil (ltb 1024 (o + length w)))
   call-first (sharedRead o n) = rw (add-zero n, or-nil (ltb 1024 (o + n)))
   call-first (attest o n) =
@@ -86,3 +84,4 @@ module _ (s : State) (back : stateOf (tables s) ≡ s) (valid : Valid s) where
   call-first (retrieve i o h) =
       rw (found-row isMissing absent refl (λ e at. refl) i h, found-row lengthIn (λ x. length (valueIn x)) refl (λ e at. refl) i h)
   call-first report = refl
+  call-first (handOver p) = rw (taken-at (s .identities) p, Bool·not-not (eqb (getD (s .identities) p 0) 0))

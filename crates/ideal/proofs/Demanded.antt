@@ -2,7 +2,7 @@
 -- a heap byte in the handle is refused in Secret.antt first (tests/edits/run). Assumes nothing.
 use Rattle.ideal.specs.Box.{callOn}
 use Rattle.ideal.specs.Demands.{Demands}
-use Rattle.ideal.proofs.Numbers.{each-number, refusals-alter-nothing}
+use Rattle.ideal.proofs.Numbers.{each-number, refusals-alter-nothing, never-five}
 use Rattle.ideal.proofs.Accepts.{accepted-answers}
 use Rattle.ideal.proofs.Histories.{history-holds, reports}
 use Rattle.ideal.proofs.Accurate.{check-is-accurate, long-check-is-no, retrieve-is-accurate, handle-once}
@@ -12,7 +12,7 @@ use Rattle.ideal.proofs.FirstFree.{handle-is-first-free}
 pub demands : Demands callOn
 demands =
     record {
-      one = record { numbers = each-number; alters-nothing = refusals-alter-nothing };
+      one = record { numbers = each-number; alters-nothing = refusals-alter-nothing; never-five = never-five };
       two =
           record {
             refuses-no-more = each-number;

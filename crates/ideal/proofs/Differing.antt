@@ -185,11 +185,11 @@ computed a b =
       accepts =
           call refl refl (call refl refl (call refl refl (call refl refl (call refl refl (call refl refl (call refl refl
           (call refl refl (call refl refl (call refl refl (call refl refl (call refl refl (call refl refl (call refl refl
-          (call refl refl (call refl refl (call refl refl (call refl refl none)))))))))))))))));
+          (call refl refl (call refl refl none)))))))))))))));
       steps =
           alike tt (alike tt (alike tt (alike tt (alike tt (alike refl (alike refl
           (step (other-call 0 1 (a ∷ []) (b ∷ []) refl refl) tt
-          (alike tt (alike tt (alike tt (alike tt (alike tt (alike tt (alike tt (alike tt (alike tt (alike tt end)))))))))))))))));
+          (alike tt (alike tt (alike tt (alike tt (alike tt (alike tt (alike tt (alike tt end)))))))))))))));
       heap = refl;
     }
 

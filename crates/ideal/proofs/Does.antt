@@ -8,14 +8,15 @@ use native.Mathlib.Omega.{arith}
 use lib.ListN.{length, length-drop}
 use lib.Seq.{length-take-le}
 use lib.Dec.{eqb, ltb}
-use borrow.Author.Tests.{ltb-false, eqb-true, eqb-false, leb-false, not-false}
+use borrow.Author.Tests.{lt-ltb, ltb-false, eqb-true, eqb-false, leb-false, not-false}
 use Rattle.record.specs.declared.Draw.{Draw}
-use Rattle.record.specs.Call.{Call, create, start, yield, exit, heapWrite, heapRead, sharedWrite, sharedRead, attest, check, protect, retrieve, report}
+use Rattle.record.specs.Call.{Call, create, exit, heapWrite, heapRead, sharedWrite, sharedRead, attest, check, protect, retrieve, report, handOver}
 use Rattle.record.specs.Write.{filled}
 use Rattle.ideal.specs.State.{State, Move, nothing, takes, activates, empties, writes, shares, logs, escrows, identityAt, caller, ownPart, any}
 use Rattle.ideal.specs.Step.{paired, pairOf, full, idle, vacant, beyond, tests, refusal, protected, move}
 use Rattle.ideal.specs.Refusals.{oneOf}
 use Rattle.ideal.specs.Valid.{Valid}
+use Rattle.lists.proofs.Bools.{and-other}
 use Rattle.ideal.proofs.Chain.{failed, passed}
 
 pub own-size : (s : State) (o n : ℕ) → Valid s → s .running < 16 → o + n ≤ 256 → length (ownPart s o n) ≡ n
@@ -87,12 +88,6 @@ does s (create p i) k r =
     let low : p < 16 = omega arith in
     let empty = eqb-true (identityAt s p) 0 (not-false _ (failed 6 _ _ r₁)) in
     does-take low empty (eqb-false i 0 (failed 8 _ _ (passed 6 _ _ r₁)))
-does s (start p) k r =
-    let r₁ = passed 4 _ _ r in
-    let h = ltb-false 15 p (failed 5 _ _ r₁) in
-    let low : p ≤ 16 = omega arith in
-    does-activate low (λ h. eqb-false (identityAt s p) 0 (failed 6 _ _ (passed 5 (ltb 15 p) _ r₁)))
-does s yield k r = does-activate {p = 16} (omega arith) (λ h. absurd (omega arith))
 does s exit k r = does-empty (busy s k (failed 3 _ _ r))
 does s (heapWrite p o v) k r =
     does-write refl (busy s k (failed 3 _ _ r))
@@ -107,3 +102,7 @@ does s (retrieve i o h) k r =
     does-write refl (busy s k (failed 3 _ _ r))
     (ltb-false 256 _ (failed 10 _ _ (passed 9 _ _ (passed 8 _ _ (passed 3 _ _ r)))))
 does s report k r = does-nothing
+does s (handOver p) k r =
+    let low = ltb-false 16 p (failed 5 _ _ r) in
+    let there = failed 6 _ _ (passed 5 (ltb 16 p) _ r) in
+    does-activate low (λ h. eqb-false (identityAt s p) 0 (and-other (ltb p 16) _ (lt-ltb p 16 h) there))

@@ -9,7 +9,7 @@ use lib.ListN.{length, take}
 use lib.Dec.{eqb, ltb}
 use borrow.Author.Tests.{eq-eqb}
 use Rattle.fnv.specs.Fnv.{mixed, fnvFrom, fnv1a, little, tagOf}
-use Rattle.record.specs.Call.{Call, create, start, attest, protect, retrieve, report}
+use Rattle.record.specs.Call.{Call, create, attest, protect, retrieve, report, handOver}
 use Rattle.record.specs.Layout.{stands, kinds, among, kindOf}
 use Rattle.record.specs.Read.{read, fromLittle, field, contents, bytesField, fields, readFields, readKind, afterMap}
 use Rattle.record.specs.Write.{write, only, recordOf, filled, recordIn}
@@ -60,7 +60,7 @@ module _ (box : Tables → Element → Result) (two : Demand2 box) (es : List El
 unfoldable short : List Element
 short =
     map element
-    (create 0 1 ∷ start 0 ∷ attest 0 0 ∷ protect 1 0 0 (record { 0 = 0 }) ∷ retrieve 1 0 (record { 0 = 0 }) ∷ attest 0 1 ∷ report ∷ [])
+    (create 0 1 ∷ handOver 0 ∷ attest 0 0 ∷ protect 1 0 0 (record { 0 = 0 }) ∷ retrieve 1 0 (record { 0 = 0 }) ∷ attest 0 1 ∷ report ∷ [])
 
 -- 41 values escrowed, and one of them retrieved
 unfoldable protects : ℕ → List Call
@@ -68,7 +68,7 @@ protects zero = []
 protects (suc n) = protect 1 0 0 (record { 0 = n }) ∷ protects n
 
 unfoldable long : List Element
-long = map element (create 0 1 ∷ start 0 ∷ (protects 41 ++ (retrieve 1 0 (record { 0 = 7 }) ∷ [])))
+long = map element (create 0 1 ∷ handOver 0 ∷ (protects 41 ++ (retrieve 1 0 (record { 0 = 7 }) ∷ [])))
 
 -- the length of the first value
 unfoldable firstLength : List Logged → ℕ
@@ -82,8 +82,8 @@ record Computed : Type 0 where
   create-code : answer short 0 .code ≡ 0
   untaken : takenMap (stateBefore short 0 .identities) ≡ 0
   taken : takenMap (stateBefore short 1 .identities) ≡ 1
-  start-used : answer short 1 .used ≡ 3
-  start-code : answer short 1 .code ≡ 0
+  hand-over-used : answer short 1 .used ≡ 3
+  hand-over-code : answer short 1 .code ≡ 0
   attest-code : answer short 2 .code ≡ 0
   protect-code : answer short 3 .code ≡ 0
   retrieve-code : answer short 4 .code ≡ 0
@@ -112,8 +112,8 @@ computed =
       create-code = refl;
       untaken = refl;
       taken = refl;
-      start-used = refl;
-      start-code = refl;
+      hand-over-used = refl;
+      hand-over-code = refl;
       attest-code = refl;
       protect-code = refl;
       retrieve-code = refl;
@@ -154,9 +154,9 @@ module _ (c : Computed) where
   serves-the-first two =
       let t = tables (stateBefore short 1) in
       let e = elementAt short 1 in
-      let a = answer-of servesTheFirst two short 1 (omega (arith, c .short-size)) (c .start-code) in
+      let a = answer-of servesTheFirst two short 1 (omega (arith, c .short-size)) (c .hand-over-code) in
       let r = ap (λ n. cond (eqb n 0) (callOn t e) (reply t 0 0 2)) (c .taken) in
-      let z : _≡_ {A = ℕ} 2 3 = sym (ap (λ x. x .answer .used) r) ∙ ap (λ x. x .used) a ∙ c .start-used in
+      let z : _≡_ {A = ℕ} 2 3 = sym (ap (λ x. x .answer .used) r) ∙ ap (λ x. x .used) a ∙ c .hand-over-used in
       omega arith
 
   invents-totals : Demand2 inventsTotals → ⊥

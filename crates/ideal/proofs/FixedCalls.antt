@@ -4,7 +4,7 @@ use mathlib.Core.Path.{_≡_, refl, sym, ap, _∙_}
 use mathlib.Core.Option.{some}
 use lib.Dec.{eqb}
 use borrow.Author.Tests.{eqb-true, eqb-false}
-use Rattle.record.specs.Call.{Call, create, start, yield, exit, heapWrite, heapRead, sharedWrite, sharedRead, attest, check, protect, retrieve, report}
+use Rattle.record.specs.Call.{Call, create, exit, heapWrite, heapRead, sharedWrite, sharedRead, attest, check, protect, retrieve, report, handOver}
 use Rattle.record.specs.Read.{whole, read}
 use Rattle.ideal.specs.Step.{number, shown}
 use Rattle.ideal.specs.Tables.{Tables, tables}
@@ -63,8 +63,6 @@ module _ (box : Tables → Element → Result) (one : OneCall box) (t : Tables) 
   number-is : (c : Call) (used : ℕ) → read (e .bytes) ≡ whole c used → s .answer .code ≡ 0 → r .answer .number ≡ s .answer .number
   unfolding plainNumber countedNumber
   number-is (create p i) used q z = plain _ used q z _ refl
-  number-is (start p) used q z = plain _ used q z _ refl
-  number-is yield used q z = plain _ used q z _ refl
   number-is exit used q z = plain _ used q z _ refl
   number-is (heapWrite p o v) used q z = plain _ used q z _ refl
   number-is (heapRead p o n) used q z = plain _ used q z _ refl
@@ -77,6 +75,7 @@ module _ (box : Tables → Element → Result) (one : OneCall box) (t : Tables) 
       (one-free t n (d .0) _ _ (one .handles-free t e i o n d used q (code-is ∙ z)) (handle-is-first-free t e i o n d used q z))
   number-is (retrieve i o a) used q z = by-count _ used q z _ refl
   number-is report used q z = by-count _ used q z _ refl
+  number-is (handOver p) used q z = plain _ used q z _ refl
 
   fixed : r ≡ s
   fixed =

@@ -14,7 +14,7 @@ use borrow.Author.Tests.{eqb-true, eqb-false, ne-eqb, eq-eqb}
 use Rattle.fnv.specs.declared.Tag.{Tag}
 use Rattle.record.specs.declared.Handle.{Handle}
 use Rattle.record.specs.declared.Draw.{Draw}
-use Rattle.record.specs.Call.{Call, create, start, yield, exit, heapWrite, heapRead, sharedWrite, sharedRead, attest, check, protect, retrieve, report}
+use Rattle.record.specs.Call.{Call, create, exit, heapWrite, heapRead, sharedWrite, sharedRead, attest, check, protect, retrieve, report, handOver}
 use Rattle.record.specs.Read.{Reading, refused, whole, read}
 use Rattle.record.specs.Write.{filled}
 use Rattle.ideal.specs.State.{Move, any}
@@ -82,8 +82,6 @@ same-event : (c : Call) (t w x : Tables) (n : ℕ)
     → ((i o : ℕ) (h : Handle) → c ≡ retrieve i o h → ownBytes w o n ≡ ownBytes x o n) → moveSeen t w n c ≡ moveSeen t x n c
 unfolding moveSeen
 same-event (create p i) t w x n f = refl
-same-event (start p) t w x n f = refl
-same-event yield t w x n f = refl
 same-event exit t w x n f = refl
 same-event (heapWrite p o v) t w x n f = refl
 same-event (heapRead p o m) t w x n f = refl
@@ -94,6 +92,7 @@ same-event (check i g v) t w x n f = refl
 same-event (protect i o m d) t w x n f = refl
 same-event (retrieve i o h) t w x n f = rw (f i o h refl)
 same-event report t w x n f = refl
+same-event (handOver p) t w x n f = refl
 
 -- ---- what a refused and an accepted call add to the past
 
@@ -312,8 +311,6 @@ module _ (box : Box) (two : Demand2 box) where
         → answerAt box es k .number ≡ answerAt callOn es k .number
     unfolding plainNumber
     number-is (create p i) used q z = plain _ used q z _ refl
-    number-is (start p) used q z = plain _ used q z _ refl
-    number-is yield used q z = plain _ used q z _ refl
     number-is exit used q z = plain _ used q z _ refl
     number-is (heapWrite p o v) used q z = plain _ used q z _ refl
     number-is (heapRead p o n) used q z = plain _ used q z _ refl
@@ -324,13 +321,12 @@ module _ (box : Box) (two : Demand2 box) where
     number-is (protect i o n d) used q z = handle-is i o n d used q z
     number-is (retrieve i o a) used q z = let x = both i o a used q z in x .r .accepts .1 ∙ sym (x .s .accepts .1)
     number-is report used q z = report-is used q z
+    number-is (handOver p) used q z = plain _ used q z _ refl
 
     shown-is : (c : Call) (used : ℕ) → read (e .bytes) ≡ whole c used → answerAt callOn es k .code ≡ 0
         → answerAt box es k .shown ≡ answerAt callOn es k .shown
     unfolding oneOf any filled
     shown-is (create p i) used q z = none _ used q z refl
-    shown-is (start p) used q z = none _ used q z refl
-    shown-is yield used q z = none _ used q z refl
     shown-is exit used q z = none _ used q z refl
     shown-is (heapWrite p o v) used q z = none _ used q z refl
     shown-is (heapRead p o n) used q z =
@@ -345,6 +341,7 @@ module _ (box : Box) (two : Demand2 box) where
     shown-is (protect i o n d) used q z = none _ used q z refl
     shown-is (retrieve i o a) used q z = none _ used q z refl
     shown-is report used q z = none _ used q z refl
+    shown-is (handOver p) used q z = none _ used q z refl
 
     when-accepted : (c : Call) (used : ℕ) → read (e .bytes) ≡ whole c used → answerAt callOn es k .code ≡ 0
         → SameTo box callOn es (suc k)

@@ -8,7 +8,7 @@ use lib.ListN.{length, getD, take}
 use lib.Dec.{eqb, eqb·suc-zero}
 use borrow.Author.Tests.{ltb-false, eqb-true, not-false}
 use Rattle.record.specs.declared.Handle.{Handle}
-use Rattle.record.specs.Call.{Call, create, start, yield, exit, heapWrite, heapRead, sharedWrite, sharedRead, attest, check, protect, retrieve, report}
+use Rattle.record.specs.Call.{Call, create, exit, heapWrite, heapRead, sharedWrite, sharedRead, attest, check, protect, retrieve, report, handOver}
 use Rattle.record.specs.Read.{Reading, refused, whole, read}
 use Rattle.ideal.specs.State.{State, Move, writes, fresh, heapAt, ownPart, bytesUsed}
 use Rattle.ideal.specs.Step.{found, valueIn, tests, refusal, beyond, protected, move, apply, effect, number, shown, refuse, refusedAnswer, accepted, settle, step, onReading, stepOn}
@@ -44,8 +44,6 @@ pub event-is : (s : State) (c : Call) → Valid s → refusal s c ≡ 0
     → moveSeen (tables s) (tables (effect s c)) (number s c) c ≡ move s c
 unfolding moveSeen move number protected tables boxRecord
 event-is s (create p i) k r = refl
-event-is s (start p) k r = refl
-event-is s yield k r = refl
 event-is s exit k r = refl
 event-is s (heapWrite p o v) k r =
     unfold refusal tests in
@@ -60,6 +58,7 @@ event-is s (protect i o n d) k r =
     let a = protect-passed s i o n d k r in rw (own-bytes s k (a .runs) o n (a .fits))
 event-is s (retrieve i o a) k r = ap (writes (s .running) o) (retrieved s i o a k r)
 event-is s report k r = refl
+event-is s (handOver p) k r = refl
 
 -- ---- the tables of a state are as the past says
 

@@ -1,9 +1,10 @@
 -- Demand 1: each number exactly when its condition holds and no earlier one does; a refusal alters nothing.
 use Prim.Native.Nat.{ℕ, zero, suc}
-use mathlib.Core.Path.{_≡_, refl, ap, _∙_}
+use mathlib.Core.Path.{_≡_, refl, sym, ap, _∙_}
 use mathlib.Core.Bool.{Bool, true, false, not, _&&_}
 use mathlib.Core.List.{List, [], _∷_, _++_}
-use borrow.Author.Tests.{not-true}
+use lib.Dec.{eqb}
+use borrow.Author.Tests.{eqb-false, not-true}
 use Rattle.record.specs.Call.{Call}
 use Rattle.record.specs.Read.{Reading, refused, whole, read}
 use Rattle.ideal.specs.State.{State, any, every}
@@ -12,7 +13,7 @@ use Rattle.ideal.specs.Tables.{Tables, tables, stateOf}
 use Rattle.ideal.specs.Soundness.{sizesRight, sound}
 use Rattle.ideal.specs.Box.{Element, laid, unsound, callOn, outputAfter}
 use Rattle.ideal.specs.Layouts.{Sound}
-use Rattle.ideal.specs.Refusals.{oneOf, readerConditions, callConditions, onCall, conditions, unread, was-read, Refused, EachNumber, RefusalsAlterNothing}
+use Rattle.ideal.specs.Refusals.{oneOf, readerConditions, callConditions, onCall, conditions, unread, was-read, Refused, EachNumber, RefusalsAlterNothing, NeverFive}
 use Rattle.lists.proofs.Bools.{by-cases, and-left, and-right}
 use Rattle.ideal.proofs.Laid.{valid-sound, state-tables, tables-state}
 use Rattle.ideal.proofs.Conditions.{firstOf, first-of, first-among}
@@ -64,6 +65,24 @@ call-code t e =
 
 pub each-number : EachNumber callOn
 each-number t e n = rw (call-code t e) (first-of n (conditions t e))
+
+-- ---- 5 is given no more: no condition has that number
+
+notFive : ℕ → Bool
+notFive m = not (eqb m 5)
+
+call-not-five : (t : Tables) (r : Reading) → notFive (firstOf (onCall t r)) ≡ true
+unfolding notFive onCall every callConditions firstOf
+call-not-five t (refused code number) = refl
+call-not-five t (whole c used) = first-among notFive (callConditions t c) [] refl refl
+
+pub never-five : NeverFive callOn
+unfolding notFive every conditions readerConditions
+never-five t e h =
+    let bs = e .bytes in
+    let reader : List (ℕ × Bool) = (15, not (sizesRight t (e .outputSize) && sound t)) ∷ readerConditions bs in
+    let k = first-among notFive reader (onCall t (read bs)) refl (call-not-five t (read bs)) in
+    eqb-false _ 5 (not-true _ k) (sym (call-code t e) ∙ h)
 
 -- ---- what a refusal leaves
 

@@ -10,7 +10,7 @@ use lib.Dec.{eqb, ltb}
 use borrow.Author.Tests.{ltb-false, eqb-true, eqb-false, eq-eqb, ne-eqb, not-false}
 use Rattle.fnv.specs.declared.Tag.{Tag}
 use Rattle.record.specs.declared.Handle.{Handle}
-use Rattle.record.specs.Call.{Call, create, start, yield, exit, heapWrite, heapRead, sharedWrite, sharedRead, attest, check, protect, retrieve, report}
+use Rattle.record.specs.Call.{Call, create, exit, heapWrite, heapRead, sharedWrite, sharedRead, attest, check, protect, retrieve, report, handOver}
 use Rattle.record.specs.Read.{whole, read}
 use Rattle.ideal.specs.declared.LogRow.{LogRow}
 use Rattle.ideal.specs.declared.EscrowRow.{EscrowRow}
@@ -168,8 +168,6 @@ module _ (s : State) (k : Valid s) where
       let h = ltb-false 15 p (failed 5 _ _ r) in
       let empty = eqb-true (identityAt s p) 0 (not-false _ (failed 6 _ _ r₁)) in
       rw (taken-more (s .identities) p i (omega (arith, k .places)) empty (eqb-false i 0 (failed 8 _ _ (passed 6 _ _ r₁))))
-  leaves-is (start p) r = unfold apply tables boxRecord withPlacesIn in refl
-  leaves-is yield r = unfold apply tables boxRecord withPlacesIn in refl
   leaves-is exit r = exit-leaves (busy s k (failed 3 _ _ r))
   leaves-is (heapWrite p o v) r =
       own-written s k (busy s k (failed 3 _ _ r)) o v
@@ -190,6 +188,7 @@ module _ (s : State) (k : Valid s) where
       (own-written s k (busy s k (failed 3 _ _ r)) o (valueIn (found s i h))
       (ltb-false 256 _ (failed 10 _ _ (passed 9 _ _ (passed 8 _ _ (passed 3 _ _ r))))))
   leaves-is report r = unfold apply in refl
+  leaves-is (handOver p) r = unfold apply tables boxRecord withPlacesIn in refl
 
   -- ---- what is answered
 
@@ -204,8 +203,6 @@ module _ (s : State) (k : Valid s) where
   counted : (c : Call) (n : ℕ) → countedNumber (tables s) c ≡ some n → number s c ≡ n
   unfolding countedNumber number
   counted (create p i) n q = absurd (none-some q)
-  counted (start p) n q = absurd (none-some q)
-  counted yield n q = absurd (none-some q)
   counted exit n q = absurd (none-some q)
   counted (heapWrite p o v) n q = absurd (none-some q)
   counted (heapRead p o m) n q = absurd (none-some q)
@@ -216,12 +213,11 @@ module _ (s : State) (k : Valid s) where
   counted (protect i o m d) n q = absurd (none-some q)
   counted (retrieve i o h) n q = length-found i h ∙ the-some q
   counted report n q = counts ∙ the-some q
+  counted (handOver p) n q = absurd (none-some q)
 
   shows-is : (c : Call) → refusal s c ≡ 0 → shown s c ≡ shows (tables s) c
   unfolding shown shows refusal tests beyond
   shows-is (create p i) r = refl
-  shows-is (start p) r = refl
-  shows-is yield r = refl
   shows-is exit r = refl
   shows-is (heapWrite p o v) r = refl
   shows-is (heapRead p o n) r =
@@ -234,6 +230,7 @@ module _ (s : State) (k : Valid s) where
   shows-is (protect i o n d) r = refl
   shows-is (retrieve i o h) r = refl
   shows-is report r = refl
+  shows-is (handOver p) r = refl
 
 -- ---- the promise, of the definition
 

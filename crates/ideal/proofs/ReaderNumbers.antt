@@ -12,8 +12,8 @@ use borrow.Author.Tests.{ltb-true, ltb-false, lt-ltb, le-ltb, eqb-true, eqb-fals
 use Rattle.record.specs.declared.Fields.{Fields}
 use Rattle.record.specs.Layout.{Kind, stands, kinds, among, kindOf, mapIn, mapOf}
 use Rattle.record.specs.Read.{Reading, refused, whole, cut, unknown, wrongMap, fromLittle, field, contents, bytesField, fields, readFields, readKind, afterMap, read}
-use Rattle.ideal.specs.State.{part, every}
-use Rattle.ideal.specs.Refusals.{width, fixedBytes, cutField, isMap, readerConditions}
+use Rattle.ideal.specs.State.{part, any, every}
+use Rattle.ideal.specs.Refusals.{oneOf, width, fixedBytes, cutField, isMap, readerConditions}
 use Rattle.lists.proofs.Bools.{by-cases, and-left, and-right}
 use Rattle.ideal.proofs.Conditions.{firstOf}
 
@@ -62,6 +62,10 @@ bytes-seen all m at true next l k =
 
 -- ---- a record of a kind
 
+-- as readerConditions has it
+abbrev noKind : ℕ → Bool
+noKind n = ltb 14 n || oneOf (0 ∷ 2 ∷ 3 ∷ []) n
+
 unlisted : Option Kind → Bool
 unlisted none = true
 unlisted (some k) = false
@@ -88,9 +92,9 @@ module _ (map n : ℕ) (rest : List ℕ) (m : ℕ) where
       go (stands map 5) 8 four _ l (omega arith) λ x l.
       bytes-seen all m end (stands map 6) _ l (k _)
 
-  kind-seen : (total : ℕ) (o : Option Kind) → unlisted o ≡ (eqb n 0 || ltb 13 n)
+  kind-seen : (total : ℕ) (o : Option Kind) → unlisted o ≡ noKind n
       → seen (readKind total map o rest) m
-      ≡ (cond (eqb n 0 || ltb 13 n) 2 (cond (not (isMap map (mapIn o))) 3 (cond (cutField map (map ∷ n ∷ rest)) 1 m)), 0)
+      ≡ (cond (noKind n) 2 (cond (not (isMap map (mapIn o))) 3 (cond (cutField map (map ∷ n ∷ rest)) 1 m)), 0)
   unfolding readKind readFields unlisted mapIn isMap seen unknown wrongMap
   kind-seen total none e = rw (← e)
   kind-seen total (some k) e =
@@ -113,12 +117,12 @@ below-at p (suc n) k h l =
     (λ e. rw (eqb-true k n e) (and-left (p n) _ h))
     (λ e. below-at p n k (and-right (p n) _ h) (omega (arith, eqb-false k n e)))
 
-among-high : (n : ℕ) (ks : List Kind) → every (λ k. leb (k .number) 13) ks ≡ true → 13 < n → among ks n ≡ none
+among-high : (n : ℕ) (ks : List Kind) → every (λ k. leb (k .number) 14) ks ≡ true → 14 < n → among ks n ≡ none
 unfolding every among
 among-high n [] h l = refl
 among-high n (k ∷ ks) h l =
-    let g = leb-true (k .number) 13 (and-left (leb (k .number) 13) _ h) in
-    rw (ne-eqb (k .number) n (λ e. omega arith), among-high n ks (and-right (leb (k .number) 13) _ h) l)
+    let g = leb-true (k .number) 14 (and-left (leb (k .number) 14) _ h) in
+    rw (ne-eqb (k .number) n (λ e. omega arith), among-high n ks (and-right (leb (k .number) 14) _ h) l)
 
 same : (a b : Bool) → Bool·beq a b ≡ true → a ≡ b
 same true true h = refl
@@ -126,13 +130,13 @@ same true false h = absurd (false≢true h)
 same false true h = absurd (false≢true h)
 same false false h = refl
 
--- no kind has the number 0, or one above 13
-kinds-listed : (n : ℕ) → unlisted (kindOf n) ≡ (eqb n 0 || ltb 13 n)
-unfolding unlisted kindOf kinds below among every
+-- no kind has the number 0, 2 or 3, or one above 14
+kinds-listed : (n : ℕ) → unlisted (kindOf n) ≡ noKind n
+unfolding unlisted kindOf kinds below among every oneOf any
 kinds-listed n =
-    by-cases (ltb 13 n)
-    (λ h. let l : 13 < n = omega (arith, ltb-true) in rw (h, among-high n kinds refl l, ne-eqb n 0 (λ e. omega arith)))
-    (λ h. same _ _ (below-at (λ k. Bool·beq (unlisted (kindOf k)) (eqb k 0 || ltb 13 k)) 14 n refl (omega (arith, ltb-false))))
+    by-cases (ltb 14 n)
+    (λ h. let l : 14 < n = omega (arith, ltb-true) in rw (h, among-high n kinds refl l))
+    (λ h. same _ _ (below-at (λ k. Bool·beq (unlisted (kindOf k)) (noKind k)) 15 n refl (omega (arith, ltb-false))))
 
 -- ---- the reader
 

@@ -9,7 +9,7 @@ use lib.ListN.{length, getD, List·getD-eq-default}
 use lib.Dec.{eqb, ltb}
 use borrow.Author.Tests.{eqb-true, ltb-true, ltb-false, not-false}
 use Rattle.record.specs.declared.Draw.{Draw}
-use Rattle.record.specs.Call.{Call, create, start, yield, exit, heapWrite, heapRead, sharedWrite, sharedRead, attest, check, protect, retrieve, report}
+use Rattle.record.specs.Call.{Call, create, exit, heapWrite, heapRead, sharedWrite, sharedRead, attest, check, protect, retrieve, report, handOver}
 use Rattle.record.specs.Read.{Reading, refused, whole, read}
 use Rattle.ideal.specs.State.{EscrowKey, Escrowed, State, fresh, identityAt, caller, part, ownPart}
 use Rattle.ideal.specs.Step.{pairOf, idle, vacant, beyond, firstHolding, tests, refusal, protected, move, effect, number, shown, Answer, Stepped as Outcome, refusedAnswer, refuse, accepted, settle, step, onReading, stepOn}
@@ -79,8 +79,6 @@ module _ (z : Secrets) {s t : State} (k : SameBut z s t) where
   pub same-in-both : {c d : Call} → AlikeCalls z s c d → NoneTold z s t c → SameCall z s t c d
   unfolding refusal tests number shown move
   same-in-both (same-call (create p i)) a = plain (rw (same-vacant z k p)) refl refl (λ r. same-take (vacant-create p i r))
-  same-in-both (same-call (start p)) a = plain (rw (same-vacant z k p, same-idle z k)) refl refl (λ r. same-activate)
-  same-in-both (same-call yield) a = plain (rw (same-idle z k)) refl refl (λ r. same-activate)
   same-in-both (same-call exit) a = plain (rw (same-idle z k)) refl refl (λ r. same-empty (k .running))
   same-in-both (same-call (heapWrite p o v)) a =
       plain (rw (same-idle z k, k .running)) refl refl (λ r. same-write (k .running) refl (λ _. refl))
@@ -110,6 +108,7 @@ module _ (z : Secrets) {s t : State} (k : SameBut z s t) where
       (λ r. same-write (k .running) (f .size) (λ g. f .value (a .retrieves g i o h refl r)))
   same-in-both (same-call report) a =
       plain refl (rw (k .identities, k .log, same-count (z .value) (k .escrow))) refl (λ r. same-nothing)
+  same-in-both (same-call (handOver p)) a = plain (rw (same-vacant z k p)) refl refl (λ r. same-activate)
   same-in-both (other-call p o v w g n) a =
       plain (rw (same-idle z k, k .running, n)) n refl (λ r. same-write (k .running) n (λ h. clash _ g h))
 

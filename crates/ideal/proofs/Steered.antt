@@ -9,7 +9,7 @@ use lib.Dec.{eqb}
 use borrow.Author.Tests.{ne-eqb}
 use Rattle.fnv.specs.Fnv.{little}
 use Rattle.record.specs.declared.Draw.{Draw}
-use Rattle.record.specs.Call.{create, start, heapWrite, attest, protect}
+use Rattle.record.specs.Call.{create, heapWrite, attest, protect, handOver}
 use Rattle.record.specs.Layout.{stands, kinds, among, kindOf}
 use Rattle.record.specs.Read.{whole, read, fromLittle, field, contents, bytesField, fields, readFields, readKind, afterMap}
 use Rattle.record.specs.Write.{write, only, recordOf, filled, recordIn}
@@ -58,7 +58,7 @@ group i = eqb i 1
 
 -- it escrows for itself the byte b
 unfoldable elements : ℕ → List Element
-elements b = map element (create 0 1 ∷ start 0 ∷ heapWrite 0 0 (b ∷ []) ∷ protect 1 0 1 (record { 0 = 7 }) ∷ [])
+elements b = map element (create 0 1 ∷ handOver 0 ∷ heapWrite 0 0 (b ∷ []) ∷ protect 1 0 1 (record { 0 = 7 }) ∷ [])
 
 unfoldable handleFor : ℕ → ℕ
 handleFor b =
@@ -67,7 +67,7 @@ handleFor b =
 record Computed : Type 0 where
   size : (b : ℕ) → length (elements b) ≡ 4
   reads₀ : (b : ℕ) → read (elementAt (elements b) 0 .bytes) ≡ whole (create 0 1) 11
-  reads₁ : (b : ℕ) → read (elementAt (elements b) 1 .bytes) ≡ whole (start 0) 3
+  reads₁ : (b : ℕ) → read (elementAt (elements b) 1 .bytes) ≡ whole (handOver 0) 3
   reads₂ : (b : ℕ) → read (elementAt (elements b) 2 .bytes) ≡ whole (heapWrite 0 0 (b ∷ [])) 8
   reads₃ : (b : ℕ) → read (elementAt (elements b) 3 .bytes) ≡ whole (protect 1 0 1 (record { 0 = 7 })) 22
   same₀ : elementAt (elements 0) 0 ≡ elementAt (elements 1) 0
@@ -101,7 +101,7 @@ module _ (c : Computed) where
   unsteered : (b : ℕ) → Unsteered (elements b) 3
   unfolding kindIn filled
   unsteered b zero l q = let z : _≡_ {A = ℕ} 1 11 = sym (ap kindIn (c .reads₀ b)) ∙ q in omega arith
-  unsteered b (suc zero) l q = let z : _≡_ {A = ℕ} 2 11 = sym (ap kindIn (c .reads₁ b)) ∙ q in omega arith
+  unsteered b (suc zero) l q = let z : _≡_ {A = ℕ} 14 11 = sym (ap kindIn (c .reads₁ b)) ∙ q in omega arith
   unsteered b (suc (suc zero)) l q = let z : _≡_ {A = ℕ} 5 11 = sym (ap kindIn (c .reads₂ b)) ∙ q in omega arith
   unsteered b (suc (suc (suc j))) l q = omega arith
 
@@ -152,7 +152,7 @@ module _ (c : Computed) where
 
       at : Premise byteSteers group (elements 0) (elements 1)
       at zero l = neither 1 0 (ap kindIn (c .reads₀ 0)) (λ e. omega arith) (λ e. omega arith)
-      at (suc zero) l = neither 2 1 (ap kindIn (c .reads₁ 0)) (λ e. omega arith) (λ e. omega arith)
+      at (suc zero) l = neither 14 1 (ap kindIn (c .reads₁ 0)) (λ e. omega arith) (λ e. omega arith)
       at (suc (suc zero)) l = neither 5 2 (ap kindIn (c .reads₂ 0)) (λ e. omega arith) (λ e. omega arith)
       at (suc (suc (suc zero))) l =
           record {

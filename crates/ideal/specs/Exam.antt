@@ -1,4 +1,4 @@
--- Document 01's exam cases A to J in one list of records, every kind among them, with the whole answers.
+-- Document 01's exam cases A to J and request P1's in one list of records, every kind among them, with the whole answers.
 use Prim.Native.Nat.{ℕ, zero, suc, _/_, _%_, _^_}
 use mathlib.Core.Path.{_≡_}
 use mathlib.Core.List.{List, [], _∷_, map}
@@ -34,15 +34,25 @@ questions =
     ∷ hex 11 0x07_01_00_0807060504030201 gives says 0 0 11 []
     -- again: the place is taken
     ∷ hex 11 0x07_01_00_0807060504030201 gives says 7 0 11 []
-    -- start: place 0
-    ∷ hex 3 0x03_02_00 gives says 0 0 3 []
-    -- again: one already runs
-    ∷ hex 3 0x03_02_00 gives says 5 0 3 []
+    -- kind 2, which is retired
+    ∷ hex 3 0x03_02_00 gives says 2 0 0 []
+    -- kind 3, which is retired
+    ∷ hex 2 0x01_03 gives says 2 0 0 []
+    -- hand over to 16 with none running
+    ∷ hex 3 0x03_0E_10 gives says 0 0 3 []
+    -- hand over: place 0
+    ∷ hex 3 0x03_0E_00 gives says 0 0 3 []
     -- heap write: five bytes at 0
     ∷ hex 12 0x4B_05_00_0000_0500_76616C7565 gives says 0 5 12 []
     -- two bytes at 254
     ∷ hex 9 0x4B_05_00_FE00_0200_6F6B gives says 0 2 9 []
-    -- of another place
+    -- hand over to the running place
+    ∷ hex 3 0x03_0E_00 gives says 0 0 3 []
+    -- to an empty place
+    ∷ hex 3 0x03_0E_01 gives says 7 0 3 []
+    -- to 17
+    ∷ hex 3 0x03_0E_11 gives says 6 0 3 []
+    -- heap write of another place: place 0 still runs
     ∷ hex 12 0x4B_05_01_0000_0500_76616C7565 gives says 8 0 12 []
     -- A: protect for 0x1112131415161718, length 5, draw 7
     ∷ hex 22 0x3D_0B_1817161514131211_0000_0500_0700000000000000 gives says 0 1407374883553287 22 []
@@ -90,22 +100,20 @@ questions =
     ∷ hex 6 0x19_08_FA03_0600 gives says 0 6 6 (hex 6 0x0076616C7565)
     -- report, with an output buffer of 1,023 bytes
     ∷ record { element = record { bytes = hex 2 0x01_0D; outputSize = 1023 }; answer = says 15 0 0 [] }
-    -- with the map of a start
+    -- with the map of a hand over
     ∷ hex 3 0x03_0D_00 gives says 3 0 0 []
-    -- yield
-    ∷ hex 2 0x01_03 gives says 0 0 2 []
-    -- again: none runs
-    ∷ hex 2 0x01_03 gives says 4 0 2 []
+    -- hand over to 16 with one running
+    ∷ hex 3 0x03_0E_10 gives says 0 0 3 []
+    -- exit: none runs
+    ∷ hex 2 0x01_04 gives says 4 0 2 []
     -- report: two services, two log rows, four escrow rows
     ∷ hex 2 0x01_0D gives says 0 262658 2 []
-    -- start: place 0
-    ∷ hex 3 0x03_02_00 gives says 0 0 3 []
+    -- hand over: place 0
+    ∷ hex 3 0x03_0E_00 gives says 0 0 3 []
     -- heap read: the last three bytes, retained
     ∷ hex 7 0x1B_06_00_FD00_0300 gives says 0 3 7 (hex 3 0x006F6B)
-    -- yield
-    ∷ hex 2 0x01_03 gives says 0 0 2 []
-    -- start: place 15
-    ∷ hex 3 0x03_02_0F gives says 0 0 3 []
+    -- hand over: from place 0 to place 15
+    ∷ hex 3 0x03_0E_0F gives says 0 0 3 []
     -- retrieve A's value at 252: it does not fit
     ∷ hex 20 0x2D_0C_0807060504030201_FC00_0700000000000500 gives says 11 0 20 []
     -- at 251
@@ -118,8 +126,8 @@ questions =
     ∷ hex 2 0x01_04 gives says 0 0 2 []
     -- create: place 15 for the next tenant
     ∷ hex 11 0x07_01_0F_0807060504030201 gives says 0 15 11 []
-    -- start: place 15
-    ∷ hex 3 0x03_02_0F gives says 0 0 3 []
+    -- hand over: place 15
+    ∷ hex 3 0x03_0E_0F gives says 0 0 3 []
     -- heap read: nothing is left
     ∷ hex 7 0x1B_06_0F_FA00_0600 gives says 0 6 7 (hex 6 0x000000000000)
     ∷ []

@@ -6,7 +6,7 @@ use mathlib.Core.List.{List, [], _∷_, _++_}
 use lib.ListN.{length, getD, take}
 use lib.Dec.{eqb, ltb, leb}
 use Rattle.record.specs.Layout.{stands}
-use Rattle.record.specs.Call.{Call, create, start, yield, exit, heapWrite, heapRead, sharedWrite, sharedRead, attest, check, protect, retrieve, report}
+use Rattle.record.specs.Call.{Call, create, exit, heapWrite, heapRead, sharedWrite, sharedRead, attest, check, protect, retrieve, report, handOver}
 use Rattle.record.specs.Read.{Reading, refused, whole, read}
 use Rattle.ideal.specs.declared.LogRow.{LogRow}
 use Rattle.ideal.specs.declared.EscrowRow.{EscrowRow}
@@ -21,8 +21,6 @@ use Rattle.ideal.specs.Refusals.{callerIn, ownBytes}
 -- the heap
 unfoldable pub moveSeen : Tables → Tables → ℕ → Call → Move
 moveSeen t u n (create p i) = takes p i
-moveSeen t u n (start p) = activates p
-moveSeen t u n yield = activates 16
 moveSeen t u n exit = empties (t .box .running)
 moveSeen t u n (heapWrite p o v) = writes p o v
 moveSeen t u n (heapRead p o m) = nothing
@@ -35,6 +33,7 @@ moveSeen t u n (protect i o m d) =
     escrows (record { key = record { source = callerIn t; recipient = i; handle = record { 0 = n } }; value = ownBytes t o m })
 moveSeen t u n (retrieve i o h) = writes (t .box .running) o (ownBytes u o n)
 moveSeen t u n report = nothing
+moveSeen t u n (handOver p) = activates p
 
 unfoldable pub added : Tables → Result → Reading → List Move → List Move
 added t r (refused code number) past = past
@@ -52,7 +51,7 @@ module _ (box : Tables → Element → Result) where
 
 -- ---- what the past says
 
--- a place runs from its accepted start until the next accepted yield or exit
+-- a place runs from an accepted hand over to it until the next accepted hand over or exit
 unfoldable pub runs : List Move → ℕ
 runs [] = 16
 runs (nothing ∷ past) = runs past

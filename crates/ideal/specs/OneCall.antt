@@ -10,7 +10,7 @@ use lib.Seq.{sets}
 use lib.Dec.{eqb}
 use Rattle.fnv.specs.declared.Tag.{Tag}
 use Rattle.record.specs.declared.Handle.{Handle}
-use Rattle.record.specs.Call.{Call, create, start, yield, exit, heapWrite, heapRead, sharedWrite, sharedRead, attest, check, protect, retrieve, report}
+use Rattle.record.specs.Call.{Call, create, exit, heapWrite, heapRead, sharedWrite, sharedRead, attest, check, protect, retrieve, report, handOver}
 use Rattle.record.specs.Read.{whole, read}
 use Rattle.ideal.specs.declared.Used.{Used}
 use Rattle.ideal.specs.declared.LogRow.{LogRow}
@@ -130,8 +130,6 @@ bytesIn values (some r) = part values (r .first) (r .length)
 unfoldable pub leaves : Tables → ℕ → Call → Tables
 leaves t n (create p i) =
     withPlacesIn t (t .box .taken + 2 ^ p) (t .box .running) (set (t .box .identities) p i) (t .heaps)
-leaves t n (start p) = withPlacesIn t (t .box .taken) p (t .box .identities) (t .heaps)
-leaves t n yield = withPlacesIn t (t .box .taken) 16 (t .box .identities) (t .heaps)
 leaves t n exit =
     let p = t .box .running in
     withPlacesIn t (t .box .taken - 2 ^ p) 16 (set (t .box .identities) p 0) (sets (t .heaps) (256 * p) cleared)
@@ -146,12 +144,11 @@ leaves t n (check i g v) = t
 leaves t n (protect i o m d) = withEscrowRow t i n (ownBytes t o m)
 leaves t n (retrieve i o h) = withOwnBytes t o (bytesIn (t .escrowValues) (rowFor t i h))
 leaves t n report = t
+leaves t n (handOver p) = withPlacesIn t (t .box .taken) p (t .box .identities) (t .heaps)
 
 -- the numbers that the rows and the counts say; the others are in specs/Answers.antt, and a protect's is the first free handle
 unfoldable pub countedNumber : Tables → Call → Option ℕ
 countedNumber t (create p i) = none
-countedNumber t (start p) = none
-countedNumber t yield = none
 countedNumber t exit = none
 countedNumber t (heapWrite p o v) = none
 countedNumber t (heapRead p o m) = none
@@ -162,11 +159,10 @@ countedNumber t (check i g v) = some (cond (any (isLogRow (t .logValues) i g v) 
 countedNumber t (protect i o m d) = none
 countedNumber t (retrieve i o h) = some (lengthIn (rowFor t i h))
 countedNumber t report = some (ones 16 (t .box .taken) + 256 * t .box .log .rows + 65536 * t .box .escrow .rows)
+countedNumber t (handOver p) = none
 
 unfoldable pub shows : Tables → Call → List ℕ
 shows t (create p i) = []
-shows t (start p) = []
-shows t yield = []
 shows t exit = []
 shows t (heapWrite p o v) = []
 shows t (heapRead p o m) = ownBytes t o m
@@ -177,6 +173,7 @@ shows t (check i g v) = []
 shows t (protect i o m d) = []
 shows t (retrieve i o h) = []
 shows t report = []
+shows t (handOver p) = []
 
 pub record Done (t : Tables) (c : Call) (r : Result) : Type 0 where
   pub leaves : r .tables ≡ leaves t (r .answer .number) c

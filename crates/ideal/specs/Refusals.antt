@@ -61,7 +61,7 @@ readerConditions bs =
     (1, eqb (length bs) 0)
     ∷ (2, not (stands map 0))
     ∷ (1, eqb (length bs) 1)
-    ∷ (2, eqb kind 0 || ltb 13 kind)
+    ∷ (2, ltb 14 kind || oneOf (0 ∷ 2 ∷ 3 ∷ []) kind)
     ∷ (3, not (isMap map (mapOf kind)))
     ∷ (1, cutField map bs)
     ∷ []
@@ -91,10 +91,9 @@ callConditions t c =
     let taken = stands (b .taken) (f .place) in
     let row = find (isRow (record { 0 = f .number }) (f .identity) (callerIn t)) (usedEscrow t) in
     let pair = any (holdsPair (t .logValues) (callerIn t) (ownBytes t (f .offset) (f .length))) (usedLog t) in
-    (4, oneOf (3 ∷ 4 ∷ 5 ∷ 6 ∷ 9 ∷ 11 ∷ 12 ∷ []) kind && eqb (b .running) 16)
-    ∷ (5, eqb kind 2 && not (eqb (b .running) 16))
-    ∷ (6, oneOf (1 ∷ 2 ∷ 5 ∷ 6 ∷ []) kind && ltb 15 (f .place))
-    ∷ (7, (eqb kind 1 && taken) || (eqb kind 2 && not taken))
+    (4, oneOf (4 ∷ 5 ∷ 6 ∷ 9 ∷ 11 ∷ 12 ∷ []) kind && eqb (b .running) 16)
+    ∷ (6, (oneOf (1 ∷ 5 ∷ 6 ∷ []) kind && ltb 15 (f .place)) || (eqb kind 14 && ltb 16 (f .place)))
+    ∷ (7, (eqb kind 1 && taken) || (eqb kind 14 && (ltb (f .place) 16 && not taken)))
     ∷ (8, oneOf (5 ∷ 6 ∷ []) kind && not (eqb (f .place) (b .running)))
     ∷ (9, oneOf (1 ∷ 10 ∷ 11 ∷ 12 ∷ []) kind && eqb (f .identity) 0)
     ∷ (10, eqb kind 12 && isMissing row)
@@ -148,3 +147,7 @@ module _ (box : Tables → Element → Result) where
   -- a refusal has number 0, shows nothing and alters nothing
   abbrev pub RefusalsAlterNothing : Type 0
   RefusalsAlterNothing = (t : Tables) (e : Element) → (box t e .answer .code ≡ 0 → ⊥) → Refused t e (box t e)
+
+  -- 5 is given no more, whatever the box record, the tables and the element
+  abbrev pub NeverFive : Type 0
+  NeverFive = (t : Tables) (e : Element) → box t e .answer .code ≡ 5 → ⊥

@@ -1,4 +1,4 @@
--- The thirteen calls on the state: their tests, moves, answer numbers and shown bytes (document 01's table).
+-- The calls on the state: their tests, moves, answer numbers and shown bytes (document 01's table).
 use Prim.Native.Nat.{ℕ, zero, suc, _+_, _*_, _%_, _^_}
 use mathlib.Core.Bool.{Bool, true, false, not, _&&_, _||_, cond}
 use mathlib.Core.List.{List, [], _∷_, _++_}
@@ -10,7 +10,7 @@ use Rattle.fnv.specs.declared.Tag.{Tag}
 use Rattle.fnv.specs.Fnv.{tagOf}
 use Rattle.record.specs.declared.Handle.{Handle}
 use Rattle.record.specs.declared.Draw.{Draw}
-use Rattle.record.specs.Call.{Call, create, start, yield, exit, heapWrite, heapRead, sharedWrite, sharedRead, attest, check, protect, retrieve, report}
+use Rattle.record.specs.Call.{Call, create, exit, heapWrite, heapRead, sharedWrite, sharedRead, attest, check, protect, retrieve, report, handOver}
 use Rattle.record.specs.Read.{Reading, refused, whole, read}
 use Rattle.ideal.specs.State.{Entry, Logged, Escrowed, State, Move, nothing, takes, activates, empties, writes, shares, logs, escrows, cleared, identityAt, heapAt, caller, part, ownPart, any, find, sameBytes, bytesUsed}
 
@@ -106,8 +106,6 @@ beyond limit offset size = ltb limit (offset + size)
 
 unfoldable pub tests : State → Call → Tests
 tests s (create p i) = (6, ltb 15 p) then (7, not (vacant s p)) then (9, eqb i 0) then accept
-tests s (start p) = (5, not (idle s)) then (6, ltb 15 p) then (7, vacant s p) then accept
-tests s yield = (4, idle s) then accept
 tests s exit = (4, idle s) then accept
 tests s (heapWrite p o v) =
     (4, idle s) then (6, ltb 15 p) then (8, not (eqb p (s .running))) then (11, beyond 256 o (length v)) then accept
@@ -126,6 +124,8 @@ tests s (retrieve i o h) =
     (4, idle s) then (9, eqb i 0) then (10, absent (found s i h))
     then (11, beyond 256 o (length (valueIn (found s i h)))) then accept
 tests s report = accept
+-- place 16 has no identity, and is not empty
+tests s (handOver p) = (6, ltb 16 p) then (7, ltb p 16 && vacant s p) then accept
 
 unfoldable pub refusal : State → Call → ℕ
 refusal s c = firstHolding (tests s c)
@@ -142,8 +142,6 @@ protected s recipient o n d =
 
 unfoldable pub move : State → Call → Move
 move s (create p i) = takes p i
-move s (start p) = activates p
-move s yield = activates 16
 move s exit = empties (s .running)
 move s (heapWrite p o v) = writes (s .running) o v
 move s (heapRead p o n) = nothing
@@ -154,6 +152,7 @@ move s (check i g v) = nothing
 move s (protect i o n d) = escrows (protected s i o n d)
 move s (retrieve i o h) = writes (s .running) o (valueIn (found s i h))
 move s report = nothing
+move s (handOver p) = activates p
 
 -- ---- moves on the state
 
@@ -202,8 +201,6 @@ services (i ∷ is) = cond (eqb i 0) (services is) (1 + services is)
 
 unfoldable pub number : State → Call → ℕ
 number s (create p i) = p
-number s (start p) = 0
-number s yield = 0
 number s exit = 0
 number s (heapWrite p o v) = length v
 number s (heapRead p o n) = n
@@ -214,11 +211,10 @@ number s (check i g v) = cond (logged i g v (s .log)) 1 0
 number s (protect i o n d) = freeHandle n d (s .escrow) .0
 number s (retrieve i o h) = length (valueIn (found s i h))
 number s report = services (s .identities) + 256 * length (s .log) + 65536 * length (s .escrow)
+number s (handOver p) = 0
 
 unfoldable pub shown : State → Call → List ℕ
 shown s (create p i) = []
-shown s (start p) = []
-shown s yield = []
 shown s exit = []
 shown s (heapWrite p o v) = []
 shown s (heapRead p o n) = ownPart s o n
@@ -229,6 +225,7 @@ shown s (check i g v) = []
 shown s (protect i o n d) = []
 shown s (retrieve i o h) = []
 shown s report = []
+shown s (handOver p) = []
 
 -- ---- a step
 

@@ -6,7 +6,7 @@ use mathlib.Core.Bool.{Bool, _||_}
 use mathlib.Core.List.{List, [], _∷_, map}
 use lib.ListN.{length, getD}
 use lib.Dec.{eqb}
-use Rattle.record.specs.Call.{Call, create, start, yield, heapWrite, heapRead, attest, protect, retrieve, report}
+use Rattle.record.specs.Call.{Call, create, heapWrite, heapRead, attest, protect, retrieve, report, handOver}
 use Rattle.record.specs.Write.{write}
 use Rattle.ideal.specs.Tables.{Tables}
 use Rattle.ideal.specs.Box.{Element, Result, tablesAfter, answerAt}
@@ -21,21 +21,19 @@ unfoldable pub calls : ℕ → List Call
 calls b =
     create 0 1 ∷ create 1 2 ∷ create 2 3
     -- 1 makes a byte known, to all and to the outsider 3
-    ∷ start 0
+    ∷ handOver 0
     ∷ heapWrite 0 0 (65 ∷ [])
     ∷ attest 0 1
     ∷ protect 3 0 1 (record { 0 = 7 })
     -- 1 escrows the secret for 2
     ∷ heapWrite 0 1 (b ∷ [])
     ∷ protect 2 1 1 (record { 0 = 7 })
-    ∷ yield
     -- 2 retrieves it and reads it
-    ∷ start 1
+    ∷ handOver 1
     ∷ retrieve 1 0 (record { 0 = 2 ^ 48 + 8 })
     ∷ heapRead 1 0 1
-    ∷ yield
     -- 3 retrieves what 1 escrowed for it
-    ∷ start 2
+    ∷ handOver 2
     ∷ retrieve 1 0 (record { 0 = 2 ^ 48 + 7 })
     ∷ heapRead 2 0 1
     ∷ report

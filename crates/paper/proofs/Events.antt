@@ -12,7 +12,7 @@ use borrow.Author.Tests.{eqb-true, eqb-false, ne-eqb}
 use Rattle.fnv.specs.declared.Tag.{Tag}
 use Rattle.record.specs.declared.Handle.{Handle}
 use Rattle.record.specs.declared.Draw.{Draw}
-use Rattle.record.specs.Call.{Call, create, start, yield, exit, heapWrite, heapRead, sharedWrite, sharedRead, attest, check, protect, retrieve, report}
+use Rattle.record.specs.Call.{Call, create, exit, heapWrite, heapRead, sharedWrite, sharedRead, attest, check, protect, retrieve, report, handOver}
 use Rattle.record.specs.Read.{Reading, refused, whole, read}
 use Rattle.ideal.specs.Tables.{Tables, freshTables}
 use Rattle.ideal.specs.Box.{Element, Result, callOn, elementAt, tablesAfter, tablesBefore, answerAt}
@@ -63,8 +63,6 @@ is-command t c x d h w = let e : x ≡ d = cc in subst (Was t c) e w
 was : (t : Tables) (c : Call) (d : Command) → commandOf (ownBytes t) c ≡ some d → Was t c d
 unfolding commandOf
 was t (create p i) d h = no-command d h
-was t (start p) d h = no-command d h
-was t yield d h = no-command d h
 was t exit d h = no-command d h
 was t (heapWrite p o v) d h = no-command d h
 was t (heapRead p o n) d h = no-command d h
@@ -77,6 +75,7 @@ was t (protect i o n x) d h =
     is-command t _ (iprotect i (ownBytes t o n)) d h (record { offset = o; size = n; draw = x; call = refl; bytes = refl })
 was t (retrieve i o a) d h = is-command t _ (iretrieve i a o) d h refl
 was t report d h = no-command d h
+was t (handOver p) d h = no-command d h
 
 executed : (t : Tables) (r : Result) (c : Call) (ev : Event) (x : Option Command) → commandOf (ownBytes t) c ≡ x
     → eventOf t r x ≡ ev ∷ [] → Executes t r c ev

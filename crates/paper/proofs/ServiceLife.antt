@@ -1,4 +1,4 @@
--- Heaps are apart, a yield keeps a heap, an exit clears it: the statements of specs/ServiceLife.antt. Assumes nothing.
+-- Heaps are apart, a hand over keeps a heap, an exit clears it: the statements of specs/ServiceLife.antt. Assumes nothing.
 use Prim.Native.Nat.{ℕ, zero, suc, _+_, _≤_, _<_}
 use mathlib.Core.Path.{_≡_, refl, sym, ap, _∙_, subst}
 use mathlib.Core.Bool.{true, false, _&&_}
@@ -6,28 +6,34 @@ use mathlib.Core.List.{List, [], _∷_}
 use native.Mathlib.Omega.{arith}
 use lib.ListN.{length, getD, set, replicate, length-replicate, getD-replicate}
 use lib.Seq.{getD-set-same, getD-set-other, ext-getD}
-use lib.Dec.{eqb}
-use borrow.Author.Tests.{eqb-true, eqb-false, ltb-false, not-false}
-use Rattle.record.specs.Call.{Call, yield, exit, heapRead}
+use lib.Dec.{eqb, ltb}
+use borrow.Author.Tests.{eqb-true, eqb-false, lt-ltb, ltb-true, ltb-false, le-ltb, ne-eqb, not-true, not-false}
+use Rattle.record.specs.Call.{Call, exit, heapRead, handOver}
+use Rattle.record.specs.Layout.{stands}
+use Rattle.record.specs.Read.{whole, read}
 use Rattle.record.specs.Write.{filled}
-use Rattle.ideal.specs.State.{State, Move, cleared, heapAt, part, ownPart}
-use Rattle.ideal.specs.Step.{idle, beyond, accepted, shown, refusal, tests, move, apply, effect}
-use Rattle.ideal.specs.Tables.{tables, stateOf}
+use Rattle.ideal.specs.State.{State, Move, cleared, identityAt, heapAt, part, ownPart}
+use Rattle.ideal.specs.Step.{idle, vacant, beyond, firstHolding, accepted, shown, refusal, tests, move, apply, effect}
+use Rattle.ideal.specs.Tables.{Tables, takenMap, boxRecord, tables, stateOf}
 use Rattle.ideal.specs.Soundness.{sizesRight, sound}
 use Rattle.ideal.specs.Box.{Element, laid, unsound, callOn, elementAt, tablesBefore}
 use Rattle.ideal.specs.Layouts.{Sound}
 use Rattle.ideal.specs.Refusals.{oneOf}
+use Rattle.ideal.specs.OneCall.{withPlacesIn, leaves}
 use Rattle.ideal.specs.Valid.{Valid}
-use Rattle.paper.specs.ServiceLife.{heapOf, WritesOwnHeap, RunsAt, WritesAt, YieldKeeps, ExitClears, TenantReadsZeros}
+use Rattle.paper.specs.ServiceLife.{heapOf, WritesOwnHeap, RunsAt, WritesAt, HandsOver, HandOverKeeps, ExitClears, TenantReadsZeros}
 use Rattle.lists.proofs.Bools.{by-cases, and-left, and-right}
 use Rattle.ideal.proofs.Chain.{failed, passed}
 use Rattle.ideal.proofs.Does.{busy, Does, does-nothing, does-take, does-activate, does-empty, does-write, does-share, does-log, does-escrow, does}
 use Rattle.ideal.proofs.Laid.{stepElement, valid-sound, tables-state, call-is}
 use Rattle.ideal.proofs.Kept.{valid-step}
-use Rattle.ideal.proofs.Memory.{part-at}
+use Rattle.ideal.proofs.Memory.{part-at, taken-at}
 use Rattle.ideal.proofs.Table.{part-length}
 use Rattle.ideal.proofs.Hosted.{heap-is}
-use Rattle.ideal.proofs.Runs.{stateBefore, valid-before, tables-before, running-before, stays, moves, moved, accepted-call, accepted-at, accepts-at, answer-at, state-next, state-after}
+use Rattle.ideal.proofs.Facts.{output-size}
+use Rattle.ideal.proofs.Numbers.{refusals-alter-nothing}
+use Rattle.ideal.proofs.OneCalls.{one-call}
+use Rattle.ideal.proofs.Runs.{stateBefore, valid-before, tables-before, running-before, stays, moves, moved, code-of-call, accepted-call, accepted-at, accepts-at, answer-at, state-next, state-after}
 
 -- ---- what an accepted call's move does to the heap of place p
 
@@ -126,13 +132,60 @@ module _ (es : List Element) (p : ℕ) (b : p < 16) where
 runs-below : (es : List Element) (p k : ℕ) → RunsAt callOn es p k → idle (stateBefore es k) ≡ false → p < 16
 runs-below es p k r i = let l = busy (stateBefore es k) (valid-before es k) i in let e = running-before es k in omega arith
 
-pub yield-keeps : YieldKeeps callOn
+-- ---- a hand over
+
+-- a call on a sound box that its tests let pass is accepted
+passes-code : (t : Tables) (e : Element) (c : Call) (used : ℕ) → Sound t (e .outputSize) → read (e .bytes) ≡ whole c used
+    → refusal (stateOf t) c ≡ 0 → callOn t e .answer .code ≡ 0
+unfolding laid
+passes-code t e c used h y r =
+    let n = e .outputSize in
+    ap (λ x. callOn x e .answer .code) (sym (tables-state t n h))
+    ∙ ap (λ x. x .answer .code) (call-is (stateOf t) e (valid-sound t n h))
+    ∙ code-of-call (stateOf t) e c used y (output-size t n (h .sizes)) ∙ r
+
+-- the running place is 16, or taken
+to-itself-passes : (s : State) → Valid s → refusal s (handOver (s .running)) ≡ 0
+unfolding refusal tests firstHolding vacant
+to-itself-passes s v =
+    let low = le-ltb 16 (s .running) (v .runs) in
+    by-cases (ltb (s .running) 16)
+    (λ h. rw (low, h, ne-eqb _ 0 (v .live (ltb-true _ _ h))))
+    (λ h. rw (low, h))
+
+-- a taken place has an identity
+taken-there : (t : Tables) (n p : ℕ) → Sound t n → stands (t .box .taken) p ≡ true → identityAt (stateOf t) p ≡ 0 → ⊥
+unfolding tables boxRecord stateOf
+taken-there t n p h e =
+    let ids = t .box .identities in
+    let map : takenMap ids ≡ t .box .taken = ap (λ x. x .box .taken) (tables-state t n h) in
+    eqb-false (getD ids p 0) 0 (not-true _ (sym (taken-at ids p) ∙ rw map e))
+
+to-taken-passes : (s : State) (p : ℕ) → p < 16 → (identityAt s p ≡ 0 → ⊥) → refusal s (handOver p) ≡ 0
+unfolding refusal tests firstHolding vacant
+to-taken-passes s p low n = rw (le-ltb 16 p (omega arith), lt-ltb p 16 low, ne-eqb (identityAt s p) 0 n)
+
+pub hands-over : HandsOver callOn
+hands-over =
+    record {
+      runs = λ t e p used y z. unfold leaves in one-call .does t e (handOver p) used y z .leaves;
+      starts = λ t e p used h y low taken.
+          passes-code t e (handOver p) used h y (to-taken-passes (stateOf t) p low (taken-there t (e .outputSize) p h taken));
+      yields = λ t e used h y. passes-code t e (handOver 16) used h y (unfold refusal tests firstHolding in refl);
+      to-itself = λ t e used h y.
+          let n = e .outputSize in
+          let c = handOver (t .box .running) in
+          let z = passes-code t e c used h y (unfold stateOf in to-itself-passes (stateOf t) (valid-sound t n h)) in
+          (z, unfold leaves withPlacesIn in one-call .does t e c used y z .leaves);
+      refused = λ t e p used y f. refusals-alter-nothing t e f .tables;
+    }
+
+pub hand-over-keeps : HandOverKeeps callOn
 unfolding refusal tests effect move apply
-yield-keeps es p k m used l y r h =
-    let a = accepted-at es k yield used (y .0) (y .1) in
-    let b = runs-below es p k r (failed 3 _ _ (a .passes)) in
+hand-over-keeps es p q k m used b l y r h =
+    let a = accepted-at es k (handOver q) used (y .0) (y .1) in
     away es p b (suc k) m l (λ j x z. h j x z)
-    ∙ heap-before es p b (suc k) ∙ ap (λ s. heapAt s p) (state-after es k yield used a) ∙ sym (heap-before es p b k)
+    ∙ heap-before es p b (suc k) ∙ ap (λ s. heapAt s p) (state-after es k (handOver q) used a) ∙ sym (heap-before es p b k)
 
 pub exit-clears : ExitClears callOn
 unfolding refusal tests effect move apply

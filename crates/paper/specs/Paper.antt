@@ -9,7 +9,7 @@ use lib.Dec.{eqb}
 use Rattle.fnv.specs.declared.Tag.{Tag}
 use Rattle.record.specs.declared.Handle.{Handle}
 use Rattle.record.specs.declared.Draw.{Draw}
-use Rattle.record.specs.Call.{Call, create, start, yield, exit, heapWrite, heapRead, sharedWrite, sharedRead, attest, check, protect, retrieve, report}
+use Rattle.record.specs.Call.{Call, create, exit, heapWrite, heapRead, sharedWrite, sharedRead, attest, check, protect, retrieve, report, handOver}
 use Rattle.record.specs.Read.{Reading, refused, whole, read}
 use Rattle.ideal.specs.State.{part}
 use Rattle.ideal.specs.Tables.{Tables, escrowTable, freshTables}
@@ -49,12 +49,10 @@ pub record Event : Type 0 where
 unfoldable pub principalIn : Tables → Option ℕ
 principalIn t = cond (eqb (t .box .running) 16) none (some (callerIn t))
 
--- attest, check, protect and retrieve are instructions, where own is the parts of the caller's heap. The other nine kinds are
+-- attest, check, protect and retrieve are instructions, where own is the parts of the caller's heap. The other eight kinds are
 -- none: they are "normal computational steps", or the auxiliary operations of 5.3.
 unfoldable pub commandOf : (own : (offset size : ℕ) → List ℕ) → Call → Option Command
 commandOf own (create p i) = none
-commandOf own (start p) = none
-commandOf own yield = none
 commandOf own exit = none
 commandOf own (heapWrite p o v) = none
 commandOf own (heapRead p o n) = none
@@ -65,6 +63,7 @@ commandOf own (check i g v) = some (icheck i v g)
 commandOf own (protect i o n d) = some (iprotect i (own o n))
 commandOf own (retrieve i o h) = some (iretrieve i h o)
 commandOf own report = none
+commandOf own (handOver p) = none
 
 -- what a command gives that is accepted
 abbrev pub given : Result → Command → Response

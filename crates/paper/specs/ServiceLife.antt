@@ -4,13 +4,16 @@ use mathlib.Core.Path.{_≡_}
 use mathlib.Core.Bool.{true}
 use mathlib.Core.List.{List, [], _∷_}
 use lib.ListN.{replicate}
-use Rattle.record.specs.Call.{Call, yield, exit, heapRead}
+use Rattle.record.specs.Call.{Call, exit, heapRead, handOver}
+use Rattle.record.specs.Layout.{stands}
+use Rattle.record.specs.Read.{whole, read}
 use Rattle.record.specs.Write.{filled}
 use Rattle.ideal.specs.State.{part, cleared}
 use Rattle.ideal.specs.Tables.{Tables}
 use Rattle.ideal.specs.Box.{Element, Result, tablesBefore, answerAt}
 use Rattle.ideal.specs.Layouts.{Sound}
 use Rattle.ideal.specs.Refusals.{oneOf}
+use Rattle.ideal.specs.OneCall.{withPlacesIn}
 use Rattle.ideal.specs.History.{Accepts}
 
 abbrev pub heapOf : Tables → ℕ → List ℕ
@@ -54,10 +57,28 @@ module _ (box : Tables → Element → Result) (es : List Element) where
     pub by : RunsAt p k
 
 module _ (box : Tables → Element → Result) where
+  -- start-service and yield, in one call
+  pub record HandsOver : Type 0 where
+    -- accepted: that place runs, or none where it is 16, and nothing else is altered
+    pub runs : (t : Tables) (e : Element) (p used : ℕ) → read (e .bytes) ≡ whole (handOver p) used → box t e .answer .code ≡ 0
+        → box t e .tables ≡ withPlacesIn t (t .box .taken) p (t .box .identities) (t .heaps)
+    -- a taken place is accepted, whether or not a service runs
+    pub starts : (t : Tables) (e : Element) (p used : ℕ) → Sound t (e .outputSize) → read (e .bytes) ≡ whole (handOver p) used
+        → p < 16 → stands (t .box .taken) p ≡ true → box t e .answer .code ≡ 0
+    -- and so is place 16
+    pub yields : (t : Tables) (e : Element) (used : ℕ) → Sound t (e .outputSize) → read (e .bytes) ≡ whole (handOver 16) used
+        → box t e .answer .code ≡ 0
+    -- to the running place, or to 16 where none runs: accepted, and nothing is altered
+    pub to-itself : (t : Tables) (e : Element) (used : ℕ) → Sound t (e .outputSize)
+        → read (e .bytes) ≡ whole (handOver (t .box .running)) used → (box t e .answer .code ≡ 0) × (box t e .tables ≡ t)
+    -- refused: the old service still runs, as nothing is altered
+    pub refused : (t : Tables) (e : Element) (p used : ℕ) → read (e .bytes) ≡ whole (handOver p) used
+        → (box t e .answer .code ≡ 0 → ⊥) → box t e .tables ≡ t
+
   -- yield: "Stop executing the current service, retaining its state for future start-services." Until it runs again its heap
   -- is as it was.
-  abbrev pub YieldKeeps : Type 0
-  YieldKeeps = (es : List Element) (p k m used : ℕ) → k < m → Accepts box es k yield used → RunsAt box es p k
+  abbrev pub HandOverKeeps : Type 0
+  HandOverKeeps = (es : List Element) (p q k m used : ℕ) → p < 16 → k < m → Accepts box es k (handOver q) used → RunsAt box es p k
       → ((j : ℕ) → k < j → j < m → RunsAt box es p j → ⊥)
       → heapOf (tablesBefore box es m) p ≡ heapOf (tablesBefore box es k) p
 

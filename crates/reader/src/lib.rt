@@ -103,8 +103,6 @@ fn call_of(kind: u8, f: Fields, bytes: Part) -> Call
     let number = f.number;
     match kind {
         1 => Call::Create { place, identity },
-        2 => Call::Start { place },
-        3 => Call::Yield,
         4 => Call::Exit,
         5 => Call::HeapWrite {
             place,
@@ -135,6 +133,7 @@ fn call_of(kind: u8, f: Fields, bytes: Part) -> Call
             offset,
             handle: Handle(number),
         },
+        14 => Call::HandOver { place },
         _ => Call::Report,
     }
 }

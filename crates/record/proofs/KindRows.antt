@@ -10,7 +10,7 @@ use lib.ListN.{length}
 use borrow.Author.Tests.{eqb-true}
 use Rattle.fnv.specs.Fnv.{little}
 use Rattle.record.specs.declared.Fields.{Fields}
-use Rattle.record.specs.Call.{Call, create, start, yield, exit, heapWrite, heapRead, sharedWrite, sharedRead, attest, check, protect, retrieve, report}
+use Rattle.record.specs.Call.{Call, create, exit, heapWrite, heapRead, sharedWrite, sharedRead, attest, check, protect, retrieve, report, handOver}
 use Rattle.record.specs.Layout.{Kind, stands, kinds, among, kindOf}
 use Rattle.record.specs.Write.{only, recordOf, filled, recordIn, write}
 use Rattle.record.proofs.FieldLaws.{kept, by-cases}
@@ -48,8 +48,6 @@ pub made : (c : Call)
     → (k : Kind) × (kindOf (filled c .kind) ≡ some k) × (k .call (filled c .fields) (filled c .bytes) ≡ c)
 unfolding kindOf among kinds filled
 made (create p i) = (_, refl, refl)
-made (start p) = (_, refl, refl)
-made yield = (_, refl, refl)
 made exit = (_, refl, refl)
 made (heapWrite p o v) = (_, refl, refl)
 made (heapRead p o n) = (_, refl, refl)
@@ -60,6 +58,7 @@ made (check i g v) = (_, refl, refl)
 made (protect i o n d) = (_, refl, refl)
 made (retrieve i o h) = (_, refl, refl)
 made report = (_, refl, refl)
+made (handOver p) = (_, refl, refl)
 
 -- a field that its map lacks is not written, whatever stands in it
 kept-number : (here : Bool) (n x : ℕ) → only here (little n (cond here x 0)) ≡ only here (little n x)

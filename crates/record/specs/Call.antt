@@ -7,8 +7,6 @@ use Rattle.record.specs.declared.Draw.{Draw}
 
 pub data Call : Type 0 where
   create : (place identity : ℕ) → Call
-  start : (place : ℕ) → Call
-  yield : Call
   exit : Call
   heapWrite : (place offset : ℕ) (bytes : List ℕ) → Call
   heapRead : (place offset size : ℕ) → Call
@@ -19,3 +17,5 @@ pub data Call : Type 0 where
   protect : (identity offset size : ℕ) (draw : Draw) → Call
   retrieve : (identity offset : ℕ) (handle : Handle) → Call
   report : Call
+  -- place 16: none
+  handOver : (place : ℕ) → Call

@@ -5,7 +5,7 @@ use mathlib.Core.List.{List, [], _∷_, _++_}
 use mathlib.Core.Option.{Option, none, some}
 use lib.Dec.{eqb}
 use Rattle.record.specs.declared.Fields.{Fields}
-use Rattle.record.specs.Call.{Call, create, start, yield, exit, heapWrite, heapRead, sharedWrite, sharedRead, attest, check, protect, retrieve, report}
+use Rattle.record.specs.Call.{Call, create, exit, heapWrite, heapRead, sharedWrite, sharedRead, attest, check, protect, retrieve, report, handOver}
 
 -- a bit of the map stands
 unfoldable pub stands : ℕ → ℕ → Bool
@@ -24,8 +24,6 @@ kind number map call = record { number = number; map = map; call = call }
 unfoldable pub kinds : List Kind
 kinds =
     kind 1 0x07 (λ f v. create (f .place) (f .identity))
-    ∷ kind 2 0x03 (λ f v. start (f .place))
-    ∷ kind 3 0x01 (λ f v. yield)
     ∷ kind 4 0x01 (λ f v. exit)
     ∷ kind 5 0x4B (λ f v. heapWrite (f .place) (f .offset) v)
     ∷ kind 6 0x1B (λ f v. heapRead (f .place) (f .offset) (f .length))
@@ -36,13 +34,14 @@ kinds =
     ∷ kind 11 0x3D (λ f v. protect (f .identity) (f .offset) (f .length) (record { 0 = f .number }))
     ∷ kind 12 0x2D (λ f v. retrieve (f .identity) (f .offset) (record { 0 = f .number }))
     ∷ kind 13 0x01 (λ f v. report)
+    ∷ kind 14 0x03 (λ f v. handOver (f .place))
     ∷ []
 
 unfoldable pub among : List Kind → ℕ → Option Kind
 among [] n = none
 among (k ∷ ks) n = cond (eqb (k .number) n) (some k) (among ks n)
 
--- the kind of a number; none for 0 and for 14 to 255
+-- the kind of a number; none for 0, for 2 and 3, which are retired, and for 15 to 255
 unfoldable pub kindOf : ℕ → Option Kind
 kindOf n = among kinds n
 

@@ -4,12 +4,12 @@ use mathlib.Core.List.{List}
 use lib.ListN.{length, take, drop}
 use Rattle.record.specs.declared.Part.{Part}
 use Rattle.record.specs.declared.Call as code
-use Rattle.record.specs.declared.Call.the-variants.{Create, Start, Yield, Exit, HeapWrite, HeapRead, SharedWrite, SharedRead, Attest, Check, Protect, Retrieve, Report}
+use Rattle.record.specs.declared.Call.the-variants.{Create, Exit, HeapWrite, HeapRead, SharedWrite, SharedRead, Attest, Check, Protect, Retrieve, Report, HandOver}
 use Rattle.record.specs.declared.Reading as found
 use Rattle.record.specs.declared.Reading.the-variants.{Whole, Cut, UnknownKind, WrongMap}
 use Rattle.record.specs.declared.LegalMap as legal
 use Rattle.record.specs.declared.LegalMap.the-variants.{Map, NoSuchKind}
-use Rattle.record.specs.Call.{Call, create, start, yield, exit, heapWrite, heapRead, sharedWrite, sharedRead, attest, check, protect, retrieve, report}
+use Rattle.record.specs.Call.{Call, create, exit, heapWrite, heapRead, sharedWrite, sharedRead, attest, check, protect, retrieve, report, handOver}
 use Rattle.record.specs.Layout.{OrRefusal, gives, refuses}
 use Rattle.record.specs.Read.{Reading, whole, cut, unknown, wrongMap}
 
@@ -20,8 +20,6 @@ bytesIn bs p = take (p .count) (drop (p .start) bs)
 -- the call of a record's bytes
 unfoldable pub callIn : List ℕ → code.Call → Call
 callIn bs (Create p i) = create p i
-callIn bs (Start p) = start p
-callIn bs Yield = yield
 callIn bs Exit = exit
 callIn bs (HeapWrite p o v) = heapWrite p o (bytesIn bs v)
 callIn bs (HeapRead p o n) = heapRead p o n
@@ -32,6 +30,7 @@ callIn bs (Check i g v) = check i g (bytesIn bs v)
 callIn bs (Protect i o n d) = protect i o n d
 callIn bs (Retrieve i o h) = retrieve i o h
 callIn bs Report = report
+callIn bs (HandOver p) = handOver p
 
 unfoldable pub readingIn : List ℕ → found.Reading → Reading
 readingIn bs (Whole c used) = whole (callIn bs c) used
@@ -45,8 +44,6 @@ PartWithin bs p = p .start + p .count ≤ length bs
 
 unfoldable pub CallWithin : List ℕ → code.Call → Type 0
 CallWithin bs (Create p i) = Unit {0}
-CallWithin bs (Start p) = Unit {0}
-CallWithin bs Yield = Unit {0}
 CallWithin bs Exit = Unit {0}
 CallWithin bs (HeapWrite p o v) = PartWithin bs v
 CallWithin bs (HeapRead p o n) = Unit {0}
@@ -57,6 +54,7 @@ CallWithin bs (Check i g v) = PartWithin bs v
 CallWithin bs (Protect i o n d) = Unit {0}
 CallWithin bs (Retrieve i o h) = Unit {0}
 CallWithin bs Report = Unit {0}
+CallWithin bs (HandOver p) = Unit {0}
 
 unfoldable pub ReadingWithin : List ℕ → found.Reading → Type 0
 ReadingWithin bs (Whole c used) = CallWithin bs c × (used ≤ length bs)

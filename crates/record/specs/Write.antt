@@ -7,7 +7,7 @@ use lib.ListN.{length, drop}
 use lib.Dec.{ltb}
 use Rattle.fnv.specs.Fnv.{little}
 use Rattle.record.specs.declared.Fields.{Fields}
-use Rattle.record.specs.Call.{Call, create, start, yield, exit, heapWrite, heapRead, sharedWrite, sharedRead, attest, check, protect, retrieve, report}
+use Rattle.record.specs.Call.{Call, create, exit, heapWrite, heapRead, sharedWrite, sharedRead, attest, check, protect, retrieve, report, handOver}
 use Rattle.record.specs.Layout.{Kind, stands, kindOf}
 
 -- a field where its bit stands
@@ -37,8 +37,6 @@ fill k p i o n x v =
 
 unfoldable pub filled : Call → Filled
 filled (create p i) = fill 1 p i 0 0 0 []
-filled (start p) = fill 2 p 0 0 0 0 []
-filled yield = fill 3 0 0 0 0 0 []
 filled exit = fill 4 0 0 0 0 0 []
 filled (heapWrite p o v) = fill 5 p 0 o 0 0 v
 filled (heapRead p o n) = fill 6 p 0 o n 0 []
@@ -49,6 +47,7 @@ filled (check i g v) = fill 10 0 i 0 0 (g .0) v
 filled (protect i o n d) = fill 11 0 i o n (d .0) []
 filled (retrieve i o h) = fill 12 0 i o 0 (h .0) []
 filled report = fill 13 0 0 0 0 0 []
+filled (handOver p) = fill 14 p 0 0 0 0 []
 
 unfoldable pub recordIn : Option Kind → Fields → List ℕ → List ℕ
 recordIn none f v = []

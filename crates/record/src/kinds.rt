@@ -9,10 +9,8 @@ pub fn legal_map(kind: u8) -> LegalMap
     ensures { λ r. ⌜ legalMap r ≡ mapOf kind ⌝ }
 {
     match kind {
-        0 | 14..=255 => LegalMap::NoSuchKind,
+        0 | 2 | 3 | 15..=255 => LegalMap::NoSuchKind,
         1 => LegalMap::Map(0x07),
-        2 => LegalMap::Map(0x03),
-        3 => LegalMap::Map(0x01),
         4 => LegalMap::Map(0x01),
         5 => LegalMap::Map(0x4b),
         6 => LegalMap::Map(0x1b),
@@ -23,6 +21,7 @@ pub fn legal_map(kind: u8) -> LegalMap
         11 => LegalMap::Map(0x3d),
         12 => LegalMap::Map(0x2d),
         13 => LegalMap::Map(0x01),
+        14 => LegalMap::Map(0x03),
     }
 }
 

@@ -23,10 +23,6 @@ pub enum Call {
         place: u8,
         identity: u64,
     },
-    Start {
-        place: u8,
-    },
-    Yield,
     Exit,
     HeapWrite {
         place: u8,
@@ -67,6 +63,10 @@ pub enum Call {
         handle: Handle,
     },
     Report,
+    // Place 16: none runs.
+    HandOver {
+        place: u8,
+    },
 }
 
 // What the reader finds.
@@ -75,7 +75,7 @@ pub enum Reading {
     Whole { call: Call, used: usize },
     // The record ends before a field does, or is empty.
     Cut,
-    // Bit 0 of the map is down, or the kind is none of the thirteen.
+    // Bit 0 of the map is down, or there is no such kind.
     UnknownKind,
     // The map isn't the kind's.
     WrongMap,

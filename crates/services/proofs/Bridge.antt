@@ -6,7 +6,7 @@ use mathlib.Core.List.{List, []}
 use native.Mathlib.Omega.{arith}
 use lib.ListN.{length, set}
 use lib.Seq.{sets}
-use Rattle.record.specs.Call.{Call, create, start, yield, exit, report}
+use Rattle.record.specs.Call.{Call, create, exit, report, handOver}
 use Rattle.ideal.specs.declared.BoxRecord.{BoxRecord}
 use Rattle.ideal.specs.State.{activates, cleared}
 use Rattle.ideal.specs.Step.{accept, firstHolding, idle, vacant, tests, refusal, move, apply, effect, number, shown, services, step}
@@ -21,7 +21,7 @@ use Rattle.ideal.proofs.HeapBytes.{replaced-bytes}
 use Rattle.ideal.proofs.Memory.{ones-taken}
 use Rattle.state.specs.Answers.{settled, answered}
 use Rattle.state.proofs.Settled.{answerOf, settledResult, part-settled, Moves, laid-step}
-use Rattle.services.specs.Narrow.{Leaving, boxWithIdentity, boxWithRunning, boxAfterExit, createOn, startOn, yieldOn, exitOn, exitHeaps, counts, reportOn}
+use Rattle.services.specs.Narrow.{Leaving, boxWithIdentity, boxWithRunning, boxAfterExit, createOn, exitOn, exitHeaps, counts, reportOn, handOverOn}
 
 -- the tables with another box record and other heaps
 abbrev pub replacePlaces : Tables → BoxRecord → List ℕ → Tables
@@ -69,23 +69,14 @@ module _ (t : Tables) (k : Valid (stateOf t)) (e : tables (stateOf t) ≡ t) whe
   unfolding apply tables boxRecord
   running-moves p = ap (λ x. replacePlaces x (boxWithRunning (x .box) p) (x .heaps)) e
 
-  pub start-step : (p used : ℕ) → laid (step (stateOf t) (start p) used)
+  pub hand-over-step : (p used : ℕ) → laid (step (stateOf t) (handOver p) used)
       ≡ record {
-        tables = replacePlaces t (startOn (t .box) p .held) (t .heaps);
-        answer = answerOf (startOn (t .box) p .answer) used [];
+        tables = replacePlaces t (handOverOn (t .box) p .held) (t .heaps);
+        answer = answerOf (handOverOn (t .box) p .answer) used [];
       }
-  unfolding startOn refusal tests idle vacant effect move apply number shown stateOf
-  start-step p used =
+  unfolding handOverOn refusal tests vacant effect move apply number shown stateOf
+  hand-over-step p used =
       box-step (boxWithRunning (t .box) p) used (record { leaves = λ r. running-moves p; answers = λ r. refl; shows = λ r. refl })
-
-  pub yield-step : (used : ℕ) → laid (step (stateOf t) yield used)
-      ≡ record {
-        tables = replacePlaces t (yieldOn (t .box) .held) (t .heaps);
-        answer = answerOf (yieldOn (t .box) .answer) used [];
-      }
-  unfolding yieldOn refusal tests idle effect move apply number shown stateOf
-  yield-step used =
-      box-step (boxWithRunning (t .box) 16) used (record { leaves = λ r. running-moves 16; answers = λ r. refl; shows = λ r. refl })
 
   -- ---- exit alters the heaps too
 

@@ -1,8 +1,8 @@
--- What the calls on services leave and answer, on the parts of the box that they are given: create, start, yield, exit and
--- report.
+-- What the calls on services leave and answer, on the parts of the box that they are given: create, exit, report
+-- and hand over.
 use Prim.Native.Nat.{ℕ, _+_, _*_, _≤_, _<_}
 use mathlib.Core.Path.{_≡_}
-use mathlib.Core.Bool.{Bool, not}
+use mathlib.Core.Bool.{Bool, not, _&&_}
 use mathlib.Core.List.{List}
 use lib.ListN.{length, getD, set}
 use lib.Seq.{sets}
@@ -36,12 +36,15 @@ vacantIn b p = eqb (getD (b .identities) p 0) 0
 abbrev pub createTests : BoxRecord → (place identity : ℕ) → Tests
 createTests b p i = (6, ltb 15 p) then (7, not (vacantIn b p)) then (9, eqb i 0) then accept
 
-abbrev pub startTests : BoxRecord → (place : ℕ) → Tests
-startTests b p = (5, not (idleIn b)) then (6, ltb 15 p) then (7, vacantIn b p) then accept
+abbrev pub exitTests : BoxRecord → Tests
+exitTests b = (4, idleIn b) then accept
 
--- of yield and of exit
-abbrev pub runningTests : BoxRecord → Tests
-runningTests b = (4, idleIn b) then accept
+-- a place of 0 to 15 is empty
+abbrev pub emptyAt : BoxRecord → (place : ℕ) → Bool
+emptyAt b p = ltb p 16 && vacantIn b p
+
+abbrev pub handOverTests : BoxRecord → (place : ℕ) → Tests
+handOverTests b p = (6, ltb 16 p) then (7, emptyAt b p) then accept
 
 -- ---- the box record after an accepted call
 
@@ -67,17 +70,11 @@ settledBox refusal before after number =
 unfoldable pub createOn : BoxRecord → (place identity : ℕ) → Change
 createOn b p i = settledBox (firstHolding (createTests b p i)) b (boxWithIdentity b p i) p
 
-unfoldable pub startOn : BoxRecord → (place : ℕ) → Change
-startOn b p = settledBox (firstHolding (startTests b p)) b (boxWithRunning b p) 0
-
-unfoldable pub yieldOn : BoxRecord → Change
-yieldOn b = settledBox (firstHolding (runningTests b)) b (boxWithRunning b 16) 0
-
 unfoldable pub exitOn : BoxRecord → Change
-exitOn b = settledBox (firstHolding (runningTests b)) b (boxAfterExit b) 0
+exitOn b = settledBox (firstHolding (exitTests b)) b (boxAfterExit b) 0
 
 unfoldable pub exitHeaps : BoxRecord → List ℕ → List ℕ
-exitHeaps b heaps = settled (firstHolding (runningTests b)) heaps (sets heaps (256 * b .running) cleared)
+exitHeaps b heaps = settled (firstHolding (exitTests b)) heaps (sets heaps (256 * b .running) cleared)
 
 -- services + 256 times log rows + 65,536 times escrow rows; the services are the standing bits of the map
 abbrev pub counts : BoxRecord → ℕ
@@ -85,3 +82,6 @@ counts b = ones 16 (b .taken) + 256 * b .log .rows + 65536 * b .escrow .rows
 
 unfoldable pub reportOn : BoxRecord → Answer
 reportOn b = answered (firstHolding accept) (counts b)
+
+unfoldable pub handOverOn : BoxRecord → (place : ℕ) → Change
+handOverOn b p = settledBox (firstHolding (handOverTests b p)) b (boxWithRunning b p) 0

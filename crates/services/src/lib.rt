@@ -1,8 +1,7 @@
 // Create and exit: a place is taken and emptied. Report: what the box holds.
 mod running;
 
-pub use running::start;
-pub use running::yield_running;
+pub use running::hand_over;
 ghost use mathlib.Core.Path.{_≡_};
 ghost use Prim.Native.Nat.{_^_, _<_};
 ghost use Rattle.ideal.specs.Tables.{takenMap};

@@ -5,7 +5,7 @@ use mathlib.Core.Bool.{cond}
 use mathlib.Core.List.{List, [], _∷_, _++_}
 use lib.ListN.{length, drop}
 use Rattle.record.specs.Layout.{stands, kinds, among, kindOf}
-use Rattle.record.specs.Read.{fromLittle, field, contents, bytesField, fields, readFields, readKind, afterMap, read}
+use Rattle.record.specs.Read.{unknown, fromLittle, field, contents, bytesField, fields, readFields, readKind, afterMap, read}
 use Rattle.ideal.specs.State.{State, fresh, any, bytesUsed}
 use Rattle.ideal.specs.Step.{full, hasHandle, handleOf, freeFrom, freeHandle, firstHolding, idle, vacant, beyond, tests, refusal, protected, move, apply, effect, services, number, shown, refusedAnswer, refuse, accepted, settle, step, onReading, stepOn}
 use Rattle.ideal.specs.Tables.{tables}
@@ -15,7 +15,7 @@ use Rattle.ideal.specs.Valid.{Valid}
 use Rattle.ideal.proofs.Laid.{stepElement, fresh-tables, call-is}
 use Rattle.ideal.proofs.Kept.{valid-fresh, valid-on}
 use Rattle.sheet.specs.Sheet.{bytesOf, digitOf, decimalIn, decimal, shownText, spaced, line, header, tooLong, lastCode, stops, called, linesFrom, sheet}
-use Rattle.sheet.specs.Examples.{exampleScript, exampleSheet, Example, TooLongLine}
+use Rattle.sheet.specs.Examples.{exampleScript, exampleSheet, Example, retiredScript, retiredSheet, RetiredExample, TooLongLine}
 
 -- the lines of a script on a state
 unfoldable linesOn : ℕ → State → List ℕ → List ℕ
@@ -38,17 +38,29 @@ lines-on (suc n) s (b ∷ bs) v =
     let o = stepOn s (b ∷ bs) in
     rw (call-on s (b ∷ bs) v, lines-on n (o .state) (drop (o .answer .used) (b ∷ bs)) (valid-on s (b ∷ bs) v))
 
-computed : header ++ linesOn 50 fresh exampleScript ≡ exampleSheet
+computed : header ++ linesOn 51 fresh exampleScript ≡ exampleSheet
 unfolding exampleScript exampleSheet hex linesOn bytesOf digitOf decimalIn decimal shownText spaced line header lastCode stops stands kinds among kindOf fromLittle field contents bytesField fields readFields readKind afterMap read fresh any bytesUsed full hasHandle handleOf freeFrom freeHandle firstHolding idle vacant beyond tests refusal protected move apply effect services number shown refusedAnswer refuse accepted settle step onReading stepOn
 computed = refl
 
-size : length exampleScript ≡ 50
+size : length exampleScript ≡ 51
 unfolding exampleScript hex
 size = refl
 
 pub example : Example
 unfolding sheet
-example = rw (size, fresh-tables, lines-on 50 fresh exampleScript valid-fresh) computed
+example = rw (size, fresh-tables, lines-on 51 fresh exampleScript valid-fresh) computed
+
+retired-computed : header ++ linesOn 50 fresh retiredScript ≡ retiredSheet
+unfolding retiredScript retiredSheet hex linesOn bytesOf digitOf decimalIn decimal shownText spaced line header lastCode stops stands kinds among kindOf fromLittle field contents bytesField fields readFields readKind afterMap read unknown fresh vacant firstHolding tests refusal move apply effect number shown refusedAnswer refuse accepted settle step onReading stepOn
+retired-computed = refl
+
+retired-size : length retiredScript ≡ 50
+unfolding retiredScript hex
+retired-size = refl
+
+pub retired-example : RetiredExample
+unfolding sheet
+retired-example = rw (retired-size, fresh-tables, lines-on 50 fresh retiredScript valid-fresh) retired-computed
 
 pub too-long-line : TooLongLine
 unfolding tooLong bytesOf digitOf decimalIn decimal shownText spaced line refusedAnswer

@@ -2,7 +2,11 @@
 
 use std::process::ExitCode;
 
+use differential::HandOvers;
 use interface::{Sides, Tally};
+
+/// More hand overs of each sort than this are made on sound boxes.
+const HAND_OVERS: u64 = 100;
 
 /// Progress is told after so many calls.
 const PROGRESS: u64 = 500_000;
@@ -16,6 +20,8 @@ pub struct Counts {
     codes: [u64; 18],
     /// Writings with each code.
     written: [u64; 18],
+    /// Those on sound boxes, by the proved side's running place.
+    hand_overs: HandOvers,
 }
 
 impl Counts {
@@ -26,6 +32,7 @@ impl Counts {
         record: &[u8],
         what: impl Fn() -> String,
     ) -> Option<(u8, usize)> {
+        let running = sides.host.held.running;
         let outcome = sides.call(record);
         self.calls += 1;
         self.tally.check(outcome.is_ok(), || {
@@ -34,6 +41,7 @@ impl Counts {
         });
         let answer = outcome.ok()?;
         self.codes[usize::from(answer.code)] += 1;
+        self.hand_overs.add(running, record, answer.code.into());
         Some((answer.code, answer.used))
     }
 
@@ -66,15 +74,20 @@ impl Counts {
         }
     }
 
-    /// Every number that a host can meet was met, and 16 was not.
+    /// Every number that a host can meet was met, and neither 16 nor 5, which is
+    /// retired. Hand overs of each sort were met.
     pub fn summary(mut self) -> ExitCode {
         println!("code calls writings");
         for code in 0..18 {
             println!("{code:4} {} {}", self.codes[code], self.written[code]);
         }
+        println!("{}", self.hand_overs);
+        let often = self.hand_overs.each_above(HAND_OVERS);
+        self.tally.check(often, || format!("hand overs of each sort above {HAND_OVERS}"));
         for code in 0..18 {
             let by_call = self.codes[code] > 0;
-            self.tally.check(by_call == (code < 16), || format!("calls with code {code}"));
+            let wanted = code < 16 && code != 5;
+            self.tally.check(by_call == wanted, || format!("calls with code {code}"));
             let by_writer = self.written[code] > 0;
             let wanted = [0, 2, 17].contains(&code);
             self.tally.check(by_writer == wanted, || format!("writings with code {code}"));

@@ -1,17 +1,17 @@
 //! Each damage alone, each pair of damages, each wrong size.
 
-use differential::calls::{attest, create, record_of};
+use differential::calls::{attest, create, hand_over, record_of};
 use differential::records::WRONG_OUTPUT_SIZES;
 use differential::{bases, broken, damages, pairs, play, Random};
 use interface::Sides;
-use second::{Call, Host, OUTPUT_SIZE};
+use second::{Call, Host, NONE_RUNS, OUTPUT_SIZE};
 
 use crate::counts::Counts;
 
 /// Malformed records, and whole ones of which most would alter something.
 fn records() -> Vec<Vec<u8>> {
-    let bytes: [&[u8]; 5] = [&[], &[2], &[1], &[1, 14], &[1, 2]];
-    let calls = [Call::Report, Call::Yield, Call::Exit, create(9, 1), attest(1, 2)];
+    let bytes: [&[u8]; 5] = [&[], &[2], &[1], &[3, 2, 0], &[1, 14]];
+    let calls = [Call::Report, hand_over(NONE_RUNS), Call::Exit, create(9, 1), attest(1, 2)];
     bytes.iter().map(|bytes| bytes.to_vec()).chain(calls.iter().map(record_of)).collect()
 }
 

@@ -1,6 +1,6 @@
 //! Random boxes, damaged or not, random records and random writings.
 
-use differential::records::{any, output_size, Known};
+use differential::records::{any, output_size, Known, KINDS};
 use differential::{damages, play, scramble, Random};
 use interface::{write, Sides};
 use second::OUTPUT_SIZE;
@@ -63,9 +63,10 @@ fn damaged(counts: &mut Counts, seed: u64, random: &mut Random) {
     }
 }
 
-/// Any kind, any fields, a buffer about as long as the record.
+/// Any kind, the retired ones too, any fields, a buffer about as long as the
+/// record.
 fn writing(counts: &mut Counts, seed: u64, random: &mut Random) {
-    let kind = if random.once_in(8) { random.byte() } else { random.between(0, 14) as u8 };
+    let kind = if random.once_in(8) { random.byte() } else { random.between(0, 15) as u8 };
     let fields = interface::Fields {
         place: random.byte(),
         identity: random.u64(),
@@ -88,7 +89,8 @@ fn writing(counts: &mut Counts, seed: u64, random: &mut Random) {
     let written = write(kind, fields, &bytes, &mut out);
     let agrees = (written.code, written.length) == (wanted.code, wanted.length)
         && out == wanted_out
-        && (wanted.code == 0 || out == before);
+        && (wanted.code == 0 || out == before)
+        && ((wanted.code == 2) != KINDS.contains(&kind));
     counts.writing(wanted.code, agrees, || {
         format!("writer, seed {seed}: kind {kind}, {fields:?}, {count} bytes, a buffer of {room}")
     });

@@ -2,7 +2,7 @@
 
 use second::{Call, Host, OUTPUT_SIZE};
 
-use crate::calls::{attest, create, heap_write, protect, record_of, start};
+use crate::calls::{attest, create, hand_over, heap_write, protect, record_of};
 
 /// A fresh box, one in use, one with every row used and one with every value
 /// byte used.
@@ -16,10 +16,9 @@ fn base(lengths: &[u16]) -> Host {
     let mut host = Host::fresh();
     accept(&mut host, create(2, 77));
     accept(&mut host, create(5, 88));
-    accept(&mut host, start(5));
+    accept(&mut host, hand_over(5));
     accept(&mut host, heap_write(5, 0, &[9; 256]));
-    accept(&mut host, Call::Yield);
-    accept(&mut host, start(2));
+    accept(&mut host, hand_over(2));
     for (n, &length) in lengths.iter().enumerate() {
         let mut bytes = [n as u8 + 1; 256];
         bytes[0] = 255;

@@ -6,10 +6,6 @@ pub fn create(place: u8, identity: u64) -> Call<'static> {
     Call::Create { place, identity }
 }
 
-pub fn start(place: u8) -> Call<'static> {
-    Call::Start { place }
-}
-
 pub fn heap_write(place: u8, offset: u16, bytes: &[u8]) -> Call<'_> {
     Call::HeapWrite { place, offset, bytes }
 }
@@ -40,6 +36,10 @@ pub fn protect(identity: u64, offset: u16, length: u16, draw: u64) -> Call<'stat
 
 pub fn retrieve(identity: u64, offset: u16, handle: u64) -> Call<'static> {
     Call::Retrieve { identity, offset, handle: Handle(handle) }
+}
+
+pub fn hand_over(place: u8) -> Call<'static> {
+    Call::HandOver { place }
 }
 
 /// The call's record. Its bytes must be at most 65,535.

@@ -2,7 +2,7 @@
 //! boxes, and records, all made from fixed seeds.
 //!
 //! The first box is the proved one, seen from outside. The second is the crate
-//! `second`, written from document 01 alone.
+//! `second`, written from documents 01 and 02 alone.
 
 #![forbid(unsafe_code)]
 
@@ -12,6 +12,8 @@ pub mod case;
 pub mod cases;
 pub mod clauses;
 pub mod damage;
+pub mod hand_overs;
+pub mod lines;
 pub mod play;
 pub mod random;
 pub mod records;
@@ -22,5 +24,7 @@ pub use calls::record_of;
 pub use case::Case;
 pub use clauses::{broken, Clause};
 pub use damage::{damages, pairs, scramble, Damage};
+pub use hand_overs::HandOvers;
+pub use lines::lines;
 pub use play::{play, Played};
 pub use random::Random;

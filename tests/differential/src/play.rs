@@ -2,20 +2,20 @@
 //! are acceptable, so that full logs and escrows are reached.
 
 use second::{
-    read, tag_of, Answer, Call, Host, SoundBox, DRAW_LIMIT, HEAP_SIZE, OUTPUT_SIZE, PLACES,
-    SHARED_SIZE, VALUES_SIZE,
+    read, tag_of, Answer, Call, Host, SoundBox, DRAW_LIMIT, HEAP_SIZE, NONE_RUNS, OUTPUT_SIZE,
+    PLACES, SHARED_SIZE, VALUES_SIZE,
 };
 
 use crate::calls::{
-    attest, check, create, heap_read, heap_write, protect, record_of, retrieve, shared_read,
-    shared_write, start,
+    attest, check, create, hand_over, heap_read, heap_write, protect, record_of, retrieve,
+    shared_read, shared_write,
 };
 use crate::random::Random;
 use crate::records::{self, Known};
 use crate::style::{Style, STYLES};
 
 /// A script and the sound box that it leads to, but for its last records: up to
-/// two of them may be anything, malformed too.
+/// three of them may be anything, malformed too.
 pub struct Played {
     pub script: Vec<u8>,
     pub host: Host,
@@ -36,6 +36,9 @@ pub fn play(seed: u64) -> Played {
     }
     if random.once_in(3) {
         script.extend(records::malformed(&mut random, &Known::of(&host)));
+    }
+    if random.once_in(3) {
+        script.extend(records::retired(&mut random));
     }
     Played { script, host }
 }
@@ -140,8 +143,7 @@ impl<'a> Player<'a> {
     fn remember(&mut self, call: &Call, answer: &Answer) {
         match *call {
             Call::Create { place, identity } => self.places[usize::from(place)] = identity,
-            Call::Start { place } => self.running = Some(place),
-            Call::Yield => self.running = None,
+            Call::HandOver { place } => self.running = (place != NONE_RUNS).then_some(place),
             Call::Exit => {
                 if let Some(place) = self.running.take() {
                     self.places[usize::from(place)] = 0;
@@ -194,14 +196,13 @@ impl<'a> Player<'a> {
             1 => self.shared_write(),
             2 => self.shared_read(),
             3 | 4 => self.create(),
-            _ => self.start(),
+            _ => self.hand_over(),
         }
     }
 
     fn while_running(&mut self, place: u8) -> Vec<u8> {
         match self.random.pick(self.style.kinds) {
             1 => self.create(),
-            3 => record_of(&Call::Yield),
             4 => record_of(&Call::Exit),
             5 => self.heap_write(place),
             6 => self.heap_read(place),
@@ -211,6 +212,7 @@ impl<'a> Player<'a> {
             10 => self.check(),
             11 => self.protect(),
             12 => self.retrieve(),
+            14 => self.hand_over(),
             _ => record_of(&Call::Report),
         }
     }
@@ -223,10 +225,19 @@ impl<'a> Player<'a> {
         }
     }
 
-    /// Starts a taken place; a create when there is none.
-    fn start(&mut self) -> Vec<u8> {
-        match self.place_where(|identity| identity != 0) {
-            Some(place) => record_of(&start(place)),
+    /// Mostly to a taken place; else to 16, to the running place, to an empty
+    /// one or above 16. A create when there is no such place, and now and then.
+    fn hand_over(&mut self) -> Vec<u8> {
+        let place = match self.random.below(16) {
+            0..=2 => Some(NONE_RUNS),
+            3 => self.running,
+            4 => self.place_where(|identity| identity == 0),
+            5 => Some(self.random.pick(&[17, 18, 31, 32, 255])),
+            6 | 7 => None,
+            _ => self.place_where(|identity| identity != 0),
+        };
+        match place {
+            Some(place) => record_of(&hand_over(place)),
             None => self.create(),
         }
     }

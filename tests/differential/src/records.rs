@@ -13,6 +13,9 @@ const EDGES: [u16; 18] =
 const NUMBERS: [u64; 8] =
     [0, 1, 2, DRAW_LIMIT - 1, DRAW_LIMIT, DRAW_LIMIT + 1, 256 * DRAW_LIMIT, u64::MAX];
 
+/// The numbers of the kinds. 2 and 3 are retired.
+pub const KINDS: [u8; 12] = [1, 4, 5, 6, 7, 8, 9, 10, 11, 12, 13, 14];
+
 /// What a record may name so that it fits a box.
 #[derive(Default)]
 pub struct Known {
@@ -39,9 +42,9 @@ impl Known {
 
 /// A whole record of a random kind. Any field may be at fault, or several.
 pub fn whole(random: &mut Random, known: &Known) -> Vec<u8> {
-    let kind = random.between(1, 13) as u8;
+    let kind = random.pick(&KINDS);
     let fields = Fields {
-        place: place(random),
+        place: if kind == 14 { handed_over_to(random) } else { place(random) },
         identity: identity(random, known),
         offset: edge(random),
         length: edge(random),
@@ -60,6 +63,15 @@ fn place(random: &mut Random) -> u8 {
         0 => random.byte(),
         1 => random.pick(&[14, 15, 16, 17, 255]),
         _ => random.below(4) as u8,
+    }
+}
+
+/// As in other calls, or about 16, which only yields.
+fn handed_over_to(random: &mut Random) -> u8 {
+    match random.below(4) {
+        0 => random.between(0, 17) as u8,
+        1 => random.pick(&[15, 16, 17, 255]),
+        _ => place(random),
     }
 }
 
@@ -100,16 +112,28 @@ fn bytes(random: &mut Random) -> Vec<u8> {
     random.bytes(count, 256)
 }
 
-/// A whole record spoilt in one way. A few of these are still records.
+/// A whole record spoilt in one way, or one of a retired kind. A few of these
+/// are still records.
 pub fn malformed(random: &mut Random, known: &Known) -> Vec<u8> {
     let mut record = whole(random, known);
-    match random.below(4) {
+    match random.below(5) {
         0 => record[0] ^= 1 << random.below(8),
         1 => record[1] = random.byte(),
         2 => record[0] = random.byte(),
+        3 => record = retired(random),
         _ => record.truncate(random.index(record.len())),
     }
     record
+}
+
+/// A start or a yield as it once was, kind 2 or 3 with its old map, or a start
+/// cut behind its kind. All of them are of an unknown kind.
+pub fn retired(random: &mut Random) -> Vec<u8> {
+    match random.below(3) {
+        0 => vec![0x03, 2, place(random)],
+        1 => vec![0x03, 2],
+        _ => vec![0x01, 3],
+    }
 }
 
 /// Bytes of no plan, half of them with a known kind in front.
@@ -118,7 +142,7 @@ pub fn noise(random: &mut Random) -> Vec<u8> {
     let mut noise = random.bytes(count, 256);
     if random.once_in(2) && count >= 2 {
         noise[0] = random.pick(&[0x01, 0x03, 0x07, 0x19, 0x1B, 0x2D, 0x3D, 0x49, 0x4B, 0x65]);
-        noise[1] = random.between(0, 14) as u8;
+        noise[1] = random.between(0, 15) as u8;
     }
     noise
 }
@@ -166,6 +190,32 @@ mod tests {
         for refusal in [Refusal::Cut, Refusal::UnknownKind, Refusal::WrongMap] {
             assert!(refused.contains(&refusal));
         }
+    }
+
+    /// Hand overs name every place, 16, and places above it; kinds 2 and 3 come,
+    /// and are unknown.
+    #[test]
+    fn hand_overs_and_retired_kinds_come() {
+        let mut random = Random::new(3);
+        let known = Known::default();
+        let mut handed_over = [0; 256];
+        let mut retired = [0; 4];
+        for _ in 0..20_000 {
+            if let [0x03, 14, place] = whole(&mut random, &known)[..] {
+                handed_over[usize::from(place)] += 1;
+            }
+            let record = any(&mut random, &known);
+            if let [map, kind @ (2 | 3), ..] = record[..] {
+                if map & 1 == 1 {
+                    assert_eq!(read(&record), Err(Refusal::UnknownKind));
+                    retired[usize::from(kind)] += 1;
+                }
+            }
+        }
+        let above: usize = handed_over[17..].iter().sum();
+        println!("to 0 to 16: {:?}, above: {above}; {retired:?}", &handed_over[..17]);
+        assert!(handed_over[..17].iter().all(|&count| count > 10) && above > 100);
+        assert!(retired[2] > 100 && retired[3] > 100, "{retired:?}");
     }
 
     #[test]

@@ -23,7 +23,7 @@ pub(crate) struct Style {
 pub(crate) const STYLES: [Style; 8] = [
     // Many short values: the rows run out.
     Style {
-        kinds: &[5, 5, 6, 9, 9, 9, 9, 9, 10, 11, 11, 11, 11, 11, 12, 13, 3],
+        kinds: &[5, 5, 6, 9, 9, 9, 9, 9, 10, 11, 11, 11, 11, 11, 12, 13, 14],
         values: (0, 6),
         alphabet: 256,
         draws: 4,
@@ -33,7 +33,7 @@ pub(crate) const STYLES: [Style; 8] = [
     },
     // Long values: the value bytes run out.
     Style {
-        kinds: &[5, 5, 5, 5, 6, 9, 9, 9, 10, 11, 11, 11, 12, 12, 13, 3],
+        kinds: &[5, 5, 5, 5, 6, 9, 9, 9, 10, 11, 11, 11, 12, 12, 13, 14],
         values: (200, 256),
         alphabet: 256,
         draws: 2,
@@ -43,7 +43,7 @@ pub(crate) const STYLES: [Style; 8] = [
     },
     // Values of every length.
     Style {
-        kinds: &[1, 3, 4, 5, 5, 6, 7, 8, 9, 9, 10, 10, 11, 11, 12, 12, 13],
+        kinds: &[1, 4, 5, 5, 6, 7, 8, 9, 9, 10, 10, 11, 11, 12, 12, 13, 14],
         values: (0, 256),
         alphabet: 256,
         draws: 1 << 48,
@@ -53,7 +53,7 @@ pub(crate) const STYLES: [Style; 8] = [
     },
     // Tenants come and go.
     Style {
-        kinds: &[1, 1, 3, 3, 4, 4, 5, 5, 6, 6, 9, 10, 11, 12, 13],
+        kinds: &[1, 1, 4, 4, 5, 5, 6, 6, 9, 10, 11, 12, 13, 14, 14],
         values: (0, 40),
         alphabet: 256,
         draws: 3,
@@ -63,7 +63,7 @@ pub(crate) const STYLES: [Style; 8] = [
     },
     // The same few pairs and handles again and again.
     Style {
-        kinds: &[1, 3, 5, 6, 9, 9, 9, 10, 10, 11, 11, 11, 12, 12, 13],
+        kinds: &[1, 5, 6, 9, 9, 9, 10, 10, 11, 11, 11, 12, 12, 13, 14],
         values: (0, 3),
         alphabet: 2,
         draws: 1,
@@ -73,7 +73,7 @@ pub(crate) const STYLES: [Style; 8] = [
     },
     // Shared memory.
     Style {
-        kinds: &[3, 5, 7, 7, 7, 8, 8, 8, 9, 11, 12],
+        kinds: &[5, 7, 7, 7, 8, 8, 8, 9, 11, 12, 14],
         values: (0, 256),
         alphabet: 256,
         draws: 8,
@@ -83,7 +83,7 @@ pub(crate) const STYLES: [Style; 8] = [
     },
     // Values handed on and checked.
     Style {
-        kinds: &[3, 3, 5, 6, 9, 10, 10, 10, 11, 11, 12, 12, 12, 12],
+        kinds: &[5, 6, 9, 10, 10, 10, 11, 11, 12, 12, 12, 12, 14, 14],
         values: (0, 64),
         alphabet: 16,
         draws: 5,
@@ -93,7 +93,7 @@ pub(crate) const STYLES: [Style; 8] = [
     },
     // Every second call is loose.
     Style {
-        kinds: &[1, 3, 4, 5, 6, 7, 8, 9, 9, 10, 11, 11, 12, 13],
+        kinds: &[1, 4, 5, 6, 7, 8, 9, 9, 10, 11, 11, 12, 13, 14],
         values: (0, 256),
         alphabet: 8,
         draws: 4,

@@ -2,7 +2,7 @@
 
 use std::collections::HashSet;
 
-use differential::cases;
+use differential::{cases, lines, HandOvers};
 use second::sheet;
 
 #[test]
@@ -23,4 +23,21 @@ fn names_differ() {
     for case in cases::all() {
         assert!(names.insert(case.name.clone()), "{}", case.name);
     }
+}
+
+/// The cases have hand overs of each sort, and 5, which is retired, stands in no
+/// sheet: not in those of `second`, nor in those written by hand.
+#[test]
+fn hand_overs_of_each_sort_and_never_5() {
+    let mut hand_overs = HandOvers::default();
+    let mut left_running = 0;
+    for case in cases::all() {
+        let sheet = sheet(&case.script);
+        left_running += hand_overs.count(&case.script, &sheet);
+        assert!(lines(&case.script, &sheet).all(|line| line.code != 5), "{}", case.name);
+        let by_hand = case.sheet.unwrap_or_default();
+        assert!(by_hand.lines().all(|line| !line.starts_with("5 ")), "{}", case.name);
+    }
+    println!("{hand_overs}\nrefused and followed by a call of who runs: {left_running}");
+    assert!(hand_overs.each_above(100) && left_running > 1_000, "{hand_overs}");
 }

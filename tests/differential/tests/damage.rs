@@ -1,17 +1,17 @@
 //! The damages break what they say, and `second` answers 15 to every call on a
 //! damaged box and alters nothing.
 
-use differential::calls::{attest, create, record_of};
+use differential::calls::{attest, create, hand_over, record_of};
 use differential::records::{any, output_size, Known, WRONG_OUTPUT_SIZES};
 use differential::{bases, broken, damages, pairs, play, scramble, Clause, Random};
-use second::{call, is_sound, Answer, Call, Host, OUTPUT_SIZE};
+use second::{call, is_sound, Answer, Call, Host, NONE_RUNS, OUTPUT_SIZE};
 
 const REFUSED: Answer = Answer { code: 15, number: 0, used: 0, shown: 0 };
 
 /// Malformed records, and good ones that would alter something.
 fn records() -> Vec<Vec<u8>> {
-    let bytes: [&[u8]; 5] = [&[], &[2], &[1], &[1, 14], &[1, 2]];
-    let calls = [Call::Report, Call::Yield, Call::Exit, create(9, 1), attest(1, 2)];
+    let bytes: [&[u8]; 5] = [&[], &[2], &[1], &[3, 2, 0], &[1, 14]];
+    let calls = [Call::Report, hand_over(NONE_RUNS), Call::Exit, create(9, 1), attest(1, 2)];
     let calls = calls.iter().map(record_of);
     bytes.iter().map(|bytes| bytes.to_vec()).chain(calls).collect()
 }
@@ -163,5 +163,5 @@ fn refusal_15_is_given_exactly_then() {
         codes[usize::from(answer.code)] += 1;
     }
     println!("{codes:?}");
-    assert!(codes[0] > 100 && codes[15] > 100, "{codes:?}");
+    assert!(codes[0] > 100 && codes[15] > 100 && codes[5] == 0, "{codes:?}");
 }

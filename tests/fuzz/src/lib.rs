@@ -1,5 +1,6 @@
 //! One input of the fuzzer: a box, alterations of it, and records. The proved
-//! box and `second` must agree after each call.
+//! box and `second` must agree after each call, and never answer 5, which is
+//! retired.
 
 #![deny(unsafe_op_in_unsafe_fn)]
 

@@ -1,4 +1,5 @@
-//! Document 01's example, and then every other kind of call.
+//! The example paper, then every other kind of call, then hand overs of each
+//! sort.
 
 use interface::{fresh, write, BoxRecord, EscrowRow, Fields, Host, LogRow, Tally, Used};
 
@@ -23,7 +24,7 @@ struct Step {
 
 const NO_FIELDS: Fields = Fields { place: 0, identity: 0, offset: 0, length: 0, number: 0 };
 
-/// Document 01's input, record by record.
+/// Document 01's input by hand overs, record by record.
 #[rustfmt::skip]
 const EXAMPLE: [Step; 7] = [
     Step {
@@ -32,8 +33,8 @@ const EXAMPLE: [Step; 7] = [
         alters: |host| { host.held.taken = 1; host.held.identities[0] = 1; },
     },
     Step {
-        kind: 2, fields: NO_FIELDS, bytes: &[],
-        record: &[0x03, 0x02, 0], answer: (0, 0, 0),
+        kind: 14, fields: NO_FIELDS, bytes: &[],
+        record: &[0x03, 0x0E, 0], answer: (0, 0, 0),
         alters: |host| host.held.running = 0,
     },
     Step {
@@ -57,21 +58,21 @@ const EXAMPLE: [Step; 7] = [
         record: &[0x01, 0x0D], answer: (0, 65_537, 0), alters: |_| (),
     },
     Step {
-        kind: 3, fields: NO_FIELDS, bytes: &[],
-        record: &[0x01, 0x03], answer: (0, 0, 0),
+        kind: 14, fields: Fields { place: 16, ..NO_FIELDS }, bytes: &[],
+        record: &[0x03, 0x0E, 0x10], answer: (0, 0, 0),
         alters: |host| host.held.running = 16,
     },
     Step {
-        kind: 3, fields: NO_FIELDS, bytes: &[],
-        record: &[0x01, 0x03], answer: (4, 0, 0), alters: |_| (),
+        kind: 4, fields: NO_FIELDS, bytes: &[],
+        record: &[0x01, 0x04], answer: (4, 0, 0), alters: |_| (),
     },
 ];
 
 #[rustfmt::skip]
 const OTHER_KINDS: [Step; 9] = [
     Step {
-        kind: 2, fields: NO_FIELDS, bytes: &[],
-        record: &[0x03, 0x02, 0], answer: (0, 0, 0),
+        kind: 14, fields: NO_FIELDS, bytes: &[],
+        record: &[0x03, 0x0E, 0], answer: (0, 0, 0),
         alters: |host| host.held.running = 0,
     },
     Step {
@@ -130,6 +131,87 @@ const OTHER_KINDS: [Step; 9] = [
     },
 ];
 
+/// After an exit: to 16 and refused while none runs; to a place, to the running
+/// one, to another, refused and to 16 while one runs. What ran keeps its heap.
+#[rustfmt::skip]
+const HAND_OVERS: [Step; 15] = [
+    Step {
+        kind: 14, fields: Fields { place: 16, ..NO_FIELDS }, bytes: &[],
+        record: &[0x03, 0x0E, 0x10], answer: (0, 0, 0),
+        alters: |_| (),
+    },
+    Step {
+        kind: 14, fields: NO_FIELDS, bytes: &[],
+        record: &[0x03, 0x0E, 0], answer: (7, 0, 0),
+        alters: |_| (),
+    },
+    Step {
+        kind: 14, fields: Fields { place: 17, ..NO_FIELDS }, bytes: &[],
+        record: &[0x03, 0x0E, 0x11], answer: (6, 0, 0),
+        alters: |_| (),
+    },
+    Step {
+        kind: 1, fields: Fields { place: 2, identity: 3, ..NO_FIELDS }, bytes: &[],
+        record: &[0x07, 0x01, 2, 3, 0, 0, 0, 0, 0, 0, 0], answer: (0, 2, 0),
+        alters: |host| { host.held.taken = 4; host.held.identities[2] = 3; },
+    },
+    Step {
+        kind: 1, fields: Fields { place: 15, identity: 4, ..NO_FIELDS }, bytes: &[],
+        record: &[0x07, 0x01, 15, 4, 0, 0, 0, 0, 0, 0, 0], answer: (0, 15, 0),
+        alters: |host| { host.held.taken = 0x8004; host.held.identities[15] = 4; },
+    },
+    Step {
+        kind: 14, fields: Fields { place: 2, ..NO_FIELDS }, bytes: &[],
+        record: &[0x03, 0x0E, 2], answer: (0, 0, 0),
+        alters: |host| host.held.running = 2,
+    },
+    Step {
+        kind: 5, fields: Fields { place: 2, ..NO_FIELDS }, bytes: &[0x43],
+        record: &[0x4B, 0x05, 2, 0, 0, 1, 0, 0x43], answer: (0, 1, 0),
+        alters: |host| host.heaps()[512] = 0x43,
+    },
+    Step {
+        kind: 14, fields: Fields { place: 2, ..NO_FIELDS }, bytes: &[],
+        record: &[0x03, 0x0E, 2], answer: (0, 0, 0),
+        alters: |_| (),
+    },
+    Step {
+        kind: 14, fields: NO_FIELDS, bytes: &[],
+        record: &[0x03, 0x0E, 0], answer: (7, 0, 0),
+        alters: |_| (),
+    },
+    Step {
+        kind: 14, fields: Fields { place: 17, ..NO_FIELDS }, bytes: &[],
+        record: &[0x03, 0x0E, 0x11], answer: (6, 0, 0),
+        alters: |_| (),
+    },
+    Step {
+        kind: 14, fields: Fields { place: 255, ..NO_FIELDS }, bytes: &[],
+        record: &[0x03, 0x0E, 0xFF], answer: (6, 0, 0),
+        alters: |_| (),
+    },
+    Step {
+        kind: 14, fields: Fields { place: 15, ..NO_FIELDS }, bytes: &[],
+        record: &[0x03, 0x0E, 15], answer: (0, 0, 0),
+        alters: |host| host.held.running = 15,
+    },
+    Step {
+        kind: 14, fields: Fields { place: 2, ..NO_FIELDS }, bytes: &[],
+        record: &[0x03, 0x0E, 2], answer: (0, 0, 0),
+        alters: |host| host.held.running = 2,
+    },
+    Step {
+        kind: 6, fields: Fields { place: 2, length: 1, ..NO_FIELDS }, bytes: &[],
+        record: &[0x1B, 0x06, 2, 0, 0, 1, 0], answer: (0, 1, 1),
+        alters: |host| host.output()[0] = 0x43,
+    },
+    Step {
+        kind: 14, fields: Fields { place: 16, ..NO_FIELDS }, bytes: &[],
+        record: &[0x03, 0x0E, 0x10], answer: (0, 0, 0),
+        alters: |host| host.held.running = 16,
+    },
+];
+
 pub fn check(tally: &mut Tally) {
     let all_zeros = BoxRecord {
         taken: 0,
@@ -141,13 +223,13 @@ pub fn check(tally: &mut Tally) {
     tally.check(fresh() == all_zeros, || "the fresh box".into());
     let mut host = Host::fresh();
     host.output().fill(BEFORE);
-    for (n, step) in EXAMPLE.iter().chain(&OTHER_KINDS).enumerate() {
+    for (n, step) in EXAMPLE.iter().chain(&OTHER_KINDS).chain(&HAND_OVERS).enumerate() {
         written(tally, n, step);
         called(tally, n, step, &mut host);
     }
 }
 
-/// The box after document 01's example.
+/// The box after the example.
 pub fn after_example() -> Host {
     let mut host = Host::fresh();
     host.output().fill(BEFORE);

@@ -60,10 +60,16 @@ fn records(tally: &mut Tally) {
     refused(tally, "no record", &mut host, &[], (1, 0));
     refused(tally, "no kind byte", &mut host, &[0x01], (1, 0));
     refused(tally, "no kind", &mut host, &[0x02], (2, 0));
-    refused(tally, "kind 14", &mut host, &[0x01, 0x0E], (2, 0));
+    refused(tally, "kind 15", &mut host, &[0x01, 0x0F], (2, 0));
+    refused(tally, "kind 2, retired", &mut host, &[0x03, 0x02, 0], (2, 0));
+    refused(tally, "kind 2, retired, cut", &mut host, &[0x03, 0x02], (2, 0));
+    refused(tally, "kind 3, retired", &mut host, &[0x01, 0x03], (2, 0));
     refused(tally, "another map", &mut host, &[0x03, 0x0D, 0], (3, 0));
-    refused(tally, "yield while none runs", &mut host, &[0x01, 0x03, 0xFF], (4, 2));
-    refused(tally, "place 16", &mut host, &[0x03, 0x02, 16], (6, 3));
+    refused(tally, "hand over with another map", &mut host, &[0x01, 0x0E], (3, 0));
+    refused(tally, "hand over cut", &mut host, &[0x03, 0x0E], (1, 0));
+    refused(tally, "exit while none runs", &mut host, &[0x01, 0x04, 0xFF], (4, 2));
+    refused(tally, "hand over to 17", &mut host, &[0x03, 0x0E, 17], (6, 3));
+    refused(tally, "hand over to an empty place", &mut host, &[0x03, 0x0E, 1], (7, 3));
 }
 
 fn writer(tally: &mut Tally) {
@@ -76,6 +82,9 @@ fn writer(tally: &mut Tally) {
     refused("a create in 10 bytes", 1, &[], 10, 17);
     refused("a report in no bytes", 13, &[], 0, 17);
     refused("65,536 bytes", 5, &[1; 65_536], 70_000, 17);
+    refused("a hand over in 2 bytes", 14, &[], 2, 17);
     refused("kind 0", 0, &[], 64, 2);
-    refused("kind 14 in no bytes", 14, &[], 0, 2);
+    refused("kind 2, retired", 2, &[], 64, 2);
+    refused("kind 3, retired, in no bytes", 3, &[], 0, 2);
+    refused("kind 15 in no bytes", 15, &[], 0, 2);
 }

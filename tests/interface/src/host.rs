@@ -218,8 +218,8 @@ impl Sides {
         Sides { host: Host::of(&second, &output), second, output }
     }
 
-    /// One call on both sides: the answer, or what was not the
-    /// same. A refusal is held to have altered nothing.
+    /// One call on both sides: the answer, or what was not the same. A refusal
+    /// is held to have altered nothing, and none to be 5, which is retired.
     pub fn call(&mut self, record: &[u8]) -> Result<Answer, String> {
         let wanted = self.second.call(&mut self.output, record);
         let before = (wanted.code != 0).then(|| self.host.clone());
@@ -234,6 +234,9 @@ impl Sides {
         }
         if before.map_or(false, |before| before != self.host) {
             return Err(format!("refusal {code} altered something"));
+        }
+        if code == 5 {
+            return Err("refusal 5, which is retired".into());
         }
         Ok(answer)
     }

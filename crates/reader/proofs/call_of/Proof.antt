@@ -19,7 +19,7 @@ returns-2 c =
 returns-3 : tie.Need-returns-3
 unfolding callIn callOf kindOf among kinds CallWithin
 returns-3 c =
-    (λ bs. rw (c .match .keys3), λ bs h. tt)
+    (λ bs. rw (c .match .keys3), λ bs h. h)
 
 returns-4 : tie.Need-returns-4
 unfolding callIn callOf kindOf among kinds CallWithin
@@ -39,12 +39,12 @@ returns-6 c =
 returns-7 : tie.Need-returns-7
 unfolding callIn callOf kindOf among kinds CallWithin
 returns-7 c =
-    (λ bs. rw (c .match .keys7), λ bs h. h)
+    (λ bs. rw (c .match .keys7), λ bs h. tt)
 
 returns-8 : tie.Need-returns-8
 unfolding callIn callOf kindOf among kinds CallWithin
 returns-8 c =
-    (λ bs. rw (c .match .keys8), λ bs h. tt)
+    (λ bs. rw (c .match .keys8), λ bs h. h)
 
 returns-9 : tie.Need-returns-9
 unfolding callIn callOf kindOf among kinds CallWithin
@@ -54,7 +54,7 @@ returns-9 c =
 returns-10 : tie.Need-returns-10
 unfolding callIn callOf kindOf among kinds CallWithin
 returns-10 c =
-    (λ bs. rw (c .match .keys10), λ bs h. h)
+    (λ bs. rw (c .match .keys10), λ bs h. tt)
 
 returns-11 : tie.Need-returns-11
 unfolding callIn callOf kindOf among kinds CallWithin
@@ -62,13 +62,8 @@ returns-11 c =
     (λ bs. rw (c .match .keys11), λ bs h. tt)
 
 returns-12 : tie.Need-returns-12
-unfolding callIn callOf kindOf among kinds CallWithin
-returns-12 c =
-    (λ bs. rw (c .match .keys12), λ bs h. tt)
-
-returns-13 : tie.Need-returns-13
 unfolding callIn kinds CallWithin
-returns-13 c =
+returns-12 c =
     (λ bs. sym (report-last _ _ _ _ (c .match .rest)), λ bs h. tt)
 
 pub call-of-spec : {M : Type 1} → statement M
@@ -86,5 +81,4 @@ call-of-spec =
     returns-9
     returns-10
     returns-11
-    returns-12
-    returns-13)
+    returns-12)

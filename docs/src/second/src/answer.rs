@@ -1,7 +1,9 @@
 //! Answers and the numbers of the refusals.
 
 /// Why a call, a record, a script or a writing was refused. The value of each
-/// case is its number in document 01.
+/// case is its number in document 01. 5, that one already runs, is retired
+/// since hand over (document 02, P1): no case has it, and the number stays
+/// reserved.
 #[derive(Clone, Copy, Debug, PartialEq, Eq)]
 #[repr(u8)]
 pub enum Refusal {
@@ -13,11 +15,9 @@ pub enum Refusal {
     WrongMap = 3,
     /// None runs.
     NoneRuns = 4,
-    /// One already runs.
-    OneRuns = 5,
-    /// The place is above 15.
+    /// The place is above 15, in a hand over above 16.
     NoSuchPlace = 6,
-    /// The place is taken (create) or empty (start).
+    /// The place is taken (create) or empty (hand over).
     PlaceTakenOrEmpty = 7,
     /// The place isn't the running one.
     NotRunning = 8,
@@ -63,5 +63,59 @@ impl Answer {
     /// A refusal has number 0 and shows nothing.
     pub const fn refused(refusal: Refusal, used: usize) -> Self {
         Answer { code: refusal.code(), number: 0, used, shown: 0 }
+    }
+}
+
+#[cfg(test)]
+mod tests {
+    use super::Refusal::{self, *};
+
+    /// The number that the documents give. A refusal more does not compile before it
+    /// has its line here.
+    fn documented(refusal: Refusal) -> u8 {
+        match refusal {
+            Cut => 1,
+            UnknownKind => 2,
+            WrongMap => 3,
+            NoneRuns => 4,
+            NoSuchPlace => 6,
+            PlaceTakenOrEmpty => 7,
+            NotRunning => 8,
+            ZeroIdentity => 9,
+            NoSuchRow => 10,
+            Beyond => 11,
+            DrawTooLarge => 12,
+            LogFull => 13,
+            EscrowFull => 14,
+            Unsound => 15,
+            ScriptTooLong => 16,
+            CannotWrite => 17,
+        }
+    }
+
+    /// The numbers as the documents give them; 5 is not among them.
+    #[test]
+    fn numbers() {
+        let refusals = [
+            Cut,
+            UnknownKind,
+            WrongMap,
+            NoneRuns,
+            NoSuchPlace,
+            PlaceTakenOrEmpty,
+            NotRunning,
+            ZeroIdentity,
+            NoSuchRow,
+            Beyond,
+            DrawTooLarge,
+            LogFull,
+            EscrowFull,
+            Unsound,
+            ScriptTooLong,
+            CannotWrite,
+        ];
+        let numbers = (1..=17).filter(|&number| number != 5);
+        assert!(refusals.iter().map(|refusal| refusal.code()).eq(numbers));
+        assert!(refusals.iter().all(|&refusal| refusal.code() == documented(refusal)));
     }
 }

@@ -1,4 +1,4 @@
-//! The thirteen calls on a sound box. Each tests its refusals in rising order
+//! The twelve calls on a sound box. Each tests its refusals in rising order
 //! before it alters anything.
 
 use std::ops::Range;
@@ -70,8 +70,6 @@ impl<'a> SoundBox<'a> {
     pub fn perform(&mut self, call: &Call) -> Answer {
         let result = match *call {
             Call::Create { place, identity } => self.create(place, identity).map(u64::from),
-            Call::Start { place } => self.start(place).map(|()| 0),
-            Call::Yield => self.yield_place().map(|()| 0),
             Call::Exit => self.exit().map(|()| 0),
             Call::HeapWrite { place, offset, bytes } => {
                 self.heap_write(place, offset, bytes).map(|()| count(bytes))
@@ -94,6 +92,7 @@ impl<'a> SoundBox<'a> {
                 self.retrieve(identity, offset, handle).map(u64::from)
             }
             Call::Report => Ok(self.report()),
+            Call::HandOver { place } => self.hand_over(place).map(|()| 0),
         };
         let number = match result {
             Ok(number) => number,
@@ -116,25 +115,6 @@ impl<'a> SoundBox<'a> {
         self.record.taken |= 1 << index;
         self.record.identities[index] = identity;
         Ok(place)
-    }
-
-    /// 2: that place runs.
-    pub fn start(&mut self, place: Place) -> Result<(), Refusal> {
-        if self.record.running != NONE_RUNS {
-            return Err(Refusal::OneRuns);
-        }
-        if !self.record.is_taken(index_of(place)?) {
-            return Err(Refusal::PlaceTakenOrEmpty);
-        }
-        self.record.running = place;
-        Ok(())
-    }
-
-    /// 3: none runs, heap retained.
-    pub fn yield_place(&mut self) -> Result<(), Refusal> {
-        self.running()?;
-        self.record.running = NONE_RUNS;
-        Ok(())
     }
 
     /// 4: the running place's heap is zeroed and the place emptied, none runs.
@@ -276,6 +256,16 @@ impl<'a> SoundBox<'a> {
         u64::from(self.record.taken.count_ones())
             + 256 * u64::from(self.record.log_rows)
             + 65_536 * u64::from(self.record.escrow_rows)
+    }
+
+    /// 14: yields what runs, its heap retained, and starts that place. Place 16
+    /// only yields: it has no identity, so it is neither taken nor empty.
+    pub fn hand_over(&mut self, place: Place) -> Result<(), Refusal> {
+        if place != NONE_RUNS && !self.record.is_taken(index_of(place)?) {
+            return Err(Refusal::PlaceTakenOrEmpty);
+        }
+        self.record.running = place;
+        Ok(())
     }
 
     /// The running place, or refusal 4.

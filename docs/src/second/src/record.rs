@@ -13,13 +13,13 @@ const LENGTH: u8 = 1 << 4;
 const NUMBER: u8 = 1 << 5;
 const BYTES: u8 = 1 << 6;
 
-/// The thirteen kinds of call. The value of each case is its number.
+/// The twelve kinds of call. The value of each case is its number. 2 and 3,
+/// start and yield, are retired: hand over took their place (document 02, P1),
+/// and the numbers stay reserved.
 #[derive(Clone, Copy, Debug, PartialEq, Eq)]
 #[repr(u8)]
 pub enum Kind {
     Create = 1,
-    Start = 2,
-    Yield = 3,
     Exit = 4,
     HeapWrite = 5,
     HeapRead = 6,
@@ -30,6 +30,7 @@ pub enum Kind {
     Protect = 11,
     Retrieve = 12,
     Report = 13,
+    HandOver = 14,
 }
 
 impl Kind {
@@ -37,8 +38,6 @@ impl Kind {
     pub fn from_number(number: u8) -> Result<Self, Refusal> {
         Ok(match number {
             1 => Kind::Create,
-            2 => Kind::Start,
-            3 => Kind::Yield,
             4 => Kind::Exit,
             5 => Kind::HeapWrite,
             6 => Kind::HeapRead,
@@ -49,7 +48,8 @@ impl Kind {
             11 => Kind::Protect,
             12 => Kind::Retrieve,
             13 => Kind::Report,
-            0 | 14..=255 => return Err(Refusal::UnknownKind),
+            14 => Kind::HandOver,
+            0 | 2..=3 | 15..=255 => return Err(Refusal::UnknownKind),
         })
     }
 
@@ -61,8 +61,7 @@ impl Kind {
     pub const fn map(self) -> u8 {
         match self {
             Kind::Create => 0x07,
-            Kind::Start => 0x03,
-            Kind::Yield | Kind::Exit | Kind::Report => 0x01,
+            Kind::Exit | Kind::Report => 0x01,
             Kind::HeapWrite => 0x4B,
             Kind::HeapRead => 0x1B,
             Kind::SharedWrite => 0x49,
@@ -70,6 +69,7 @@ impl Kind {
             Kind::Check => 0x65,
             Kind::Protect => 0x3D,
             Kind::Retrieve => 0x2D,
+            Kind::HandOver => 0x03,
         }
     }
 }
@@ -89,8 +89,6 @@ pub struct Fields {
 #[derive(Clone, Copy, Debug, PartialEq, Eq)]
 pub enum Call<'a> {
     Create { place: Place, identity: Identity },
-    Start { place: Place },
-    Yield,
     Exit,
     HeapWrite { place: Place, offset: u16, bytes: &'a [u8] },
     HeapRead { place: Place, offset: u16, length: u16 },
@@ -101,6 +99,7 @@ pub enum Call<'a> {
     Protect { identity: Identity, offset: u16, length: u16, draw: Draw },
     Retrieve { identity: Identity, offset: u16, handle: Handle },
     Report,
+    HandOver { place: Place },
 }
 
 impl<'a> Call<'a> {
@@ -109,8 +108,6 @@ impl<'a> Call<'a> {
         let Fields { place, identity, offset, length, number } = *fields;
         match kind {
             Kind::Create => Call::Create { place, identity },
-            Kind::Start => Call::Start { place },
-            Kind::Yield => Call::Yield,
             Kind::Exit => Call::Exit,
             Kind::HeapWrite => Call::HeapWrite { place, offset, bytes },
             Kind::HeapRead => Call::HeapRead { place, offset, length },
@@ -121,6 +118,7 @@ impl<'a> Call<'a> {
             Kind::Protect => Call::Protect { identity, offset, length, draw: Draw(number) },
             Kind::Retrieve => Call::Retrieve { identity, offset, handle: Handle(number) },
             Kind::Report => Call::Report,
+            Kind::HandOver => Call::HandOver { place },
         }
     }
 
@@ -135,11 +133,6 @@ impl<'a> Call<'a> {
                 fields.identity = identity;
                 Kind::Create
             }
-            Call::Start { place } => {
-                fields.place = place;
-                Kind::Start
-            }
-            Call::Yield => Kind::Yield,
             Call::Exit => Kind::Exit,
             Call::HeapWrite { place, offset, bytes } => {
                 fields.place = place;
@@ -188,6 +181,10 @@ impl<'a> Call<'a> {
                 Kind::Retrieve
             }
             Call::Report => Kind::Report,
+            Call::HandOver { place } => {
+                fields.place = place;
+                Kind::HandOver
+            }
         };
         (kind, fields, call_bytes)
     }
@@ -330,19 +327,34 @@ fn put(rest: &mut &mut [u8], field: &[u8]) {
 mod tests {
     use super::*;
 
-    const MAPS: [u8; 13] =
-        [0x07, 0x03, 0x01, 0x01, 0x4B, 0x1B, 0x49, 0x19, 0x19, 0x65, 0x3D, 0x2D, 0x01];
+    /// The numbers of the kinds, each with its one legal map.
+    const MAPS: [(u8, u8); 12] = [
+        (1, 0x07),
+        (4, 0x01),
+        (5, 0x4B),
+        (6, 0x1B),
+        (7, 0x49),
+        (8, 0x19),
+        (9, 0x19),
+        (10, 0x65),
+        (11, 0x3D),
+        (12, 0x2D),
+        (13, 0x01),
+        (14, 0x03),
+    ];
+
+    fn legal_map(kind: u8) -> Option<u8> {
+        MAPS.iter().find(|(number, _)| *number == kind).map(|(_, map)| *map)
+    }
 
     /// One call of each kind, every field byte different.
-    fn samples() -> [Call<'static>; 13] {
+    fn samples() -> [Call<'static>; 12] {
         let (place, identity) = (0x11, 0x2928_2726_2524_2322);
         let (offset, length) = (0x3332, 0x4544);
         let number = 0x5958_5756_5554_5352;
         let bytes: &[u8] = &[0x61, 0x62, 0x63];
         [
             Call::Create { place, identity },
-            Call::Start { place },
-            Call::Yield,
             Call::Exit,
             Call::HeapWrite { place, offset, bytes },
             Call::HeapRead { place, offset, length },
@@ -353,14 +365,13 @@ mod tests {
             Call::Protect { identity, offset, length, draw: Draw(number) },
             Call::Retrieve { identity, offset, handle: Handle(number) },
             Call::Report,
+            Call::HandOver { place },
         ]
     }
 
     /// The samples' records, written out by hand.
-    const RECORDS: [&[u8]; 13] = [
+    const RECORDS: [&[u8]; 12] = [
         b"\x07\x01\x11\x22\x23\x24\x25\x26\x27\x28\x29",
-        b"\x03\x02\x11",
-        b"\x01\x03",
         b"\x01\x04",
         b"\x4B\x05\x11\x32\x33\x03\x00abc",
         b"\x1B\x06\x11\x32\x33\x44\x45",
@@ -371,13 +382,13 @@ mod tests {
         b"\x3D\x0B\x22\x23\x24\x25\x26\x27\x28\x29\x32\x33\x44\x45\x52\x53\x54\x55\x56\x57\x58\x59",
         b"\x2D\x0C\x22\x23\x24\x25\x26\x27\x28\x29\x32\x33\x52\x53\x54\x55\x56\x57\x58\x59",
         b"\x01\x0D",
+        b"\x03\x0E\x11",
     ];
 
     #[test]
     fn reads_and_writes_each_kind() {
         for (n, (call, record)) in samples().iter().zip(RECORDS).enumerate() {
-            assert_eq!(record[0], MAPS[n]);
-            assert_eq!(usize::from(record[1]), n + 1);
+            assert_eq!((record[1], record[0]), MAPS[n]);
             assert_eq!(read(record), Ok((*call, record.len())));
             // Bytes behind the record don't matter.
             let mut longer = record.to_vec();
@@ -415,10 +426,10 @@ mod tests {
             for kind in 0..=255 {
                 let long = [&[map, kind][..], &[0; 40]].concat();
                 for record in [&long[..2], &long] {
-                    let known = (1..=13).contains(&kind);
-                    if down || !known {
+                    let legal = legal_map(kind);
+                    if down || legal.is_none() {
                         assert_eq!(read(record), Err(Refusal::UnknownKind));
-                    } else if map != MAPS[usize::from(kind) - 1] {
+                    } else if legal != Some(map) {
                         assert_eq!(read(record), Err(Refusal::WrongMap));
                     } else if map != 1 && record.len() == 2 {
                         assert_eq!(read(record), Err(Refusal::Cut));
@@ -432,10 +443,23 @@ mod tests {
         }
     }
 
+    /// The kind is tested before the map and before a cut field, so a start and
+    /// a yield as they once were are 2, whole or cut.
+    #[test]
+    fn kinds_2_and_3_are_retired() {
+        let records: [&[u8]; 5] = [&[3, 2, 0], &[3, 2], &[1, 3], &[3, 3, 0], &[1, 2]];
+        for record in records {
+            assert_eq!(read(record), Err(Refusal::UnknownKind));
+        }
+        for kind in [2, 3] {
+            assert_eq!(Kind::from_number(kind), Err(Refusal::UnknownKind));
+        }
+    }
+
     #[test]
     fn writer_tests_the_kind_first() {
         let too_many = vec![0; 65_536];
-        for kind in (0..=255).filter(|kind| !(1..=13).contains(kind)) {
+        for kind in (0..=255).filter(|&kind| legal_map(kind).is_none()) {
             for bytes in [&[][..], &too_many] {
                 let mut buffer = [0xEE; 3];
                 let refused = Written { code: 2, length: 0 };
@@ -450,8 +474,7 @@ mod tests {
     fn writer_and_the_count_of_bytes() {
         let bytes: Vec<u8> = (0..65_537u32).map(|n| (n % 251) as u8).collect();
         let fields = Fields { place: 1, identity: 2, offset: 3, length: 4, number: 5 };
-        for kind in 1..=13u8 {
-            let map = MAPS[usize::from(kind) - 1];
+        for (kind, map) in MAPS {
             let has_bytes = map & 0x40 != 0;
             for count in [0, 1, 255, 256, 257, 65_534, 65_535, 65_536, 65_537] {
                 let mut buffer = vec![0xEE; 70_000];

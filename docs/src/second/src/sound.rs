@@ -149,7 +149,7 @@ mod tests {
         let mut host = Host::fresh();
         make(&mut host, Call::Create { place: 2, identity: 77 });
         make(&mut host, Call::Create { place: 5, identity: 88 });
-        make(&mut host, Call::Start { place: 2 });
+        make(&mut host, Call::HandOver { place: 2 });
         make(&mut host, Call::HeapWrite { place: 2, offset: 0, bytes: b"abcdefgh" });
         make(&mut host, Call::Attest { offset: 0, length: 3 });
         make(&mut host, Call::Attest { offset: 3, length: 2 });
@@ -171,7 +171,7 @@ mod tests {
     fn refused(mut host: Host) {
         assert!(!is_sound(&host.lend()));
         let before = host.clone();
-        let records: [&[u8]; 4] = [&[], &[2], &[1, 13], &[1, 3]];
+        let records: [&[u8]; 5] = [&[], &[2], &[1, 13], &[1, 3], &[3, 14, 16]];
         for record in records {
             let mut output = [7; OUTPUT_SIZE];
             let answer = host.call(&mut output, record);

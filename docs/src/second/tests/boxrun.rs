@@ -17,7 +17,7 @@ fn run(script: &[u8]) -> Vec<u8> {
 
 #[test]
 fn prints_the_sheet() {
-    let scripts: [&[u8]; 4] = [&[], &[1, 13], &[1], &[0x19, 8, 0, 0, 2, 0, 1, 3]];
+    let scripts: [&[u8]; 4] = [&[], &[1, 13], &[1], &[0x19, 8, 0, 0, 2, 0, 1, 4]];
     for script in scripts {
         assert_eq!(run(script), second::sheet(script));
     }

@@ -1,5 +1,5 @@
-//! Document 01's exam cases, traps, boundaries and order of refusals, through
-//! the library's own doors.
+//! Document 01's exam cases, traps, boundaries and order of refusals, and the
+//! hand overs of document 02's P1, through the library's own doors.
 
 use second::*;
 
@@ -31,7 +31,7 @@ impl Bench {
         for place in 0..3 {
             bench.accept(Call::Create { place, identity: u64::from(place) + 1 });
         }
-        bench.accept(Call::Start { place: 0 });
+        bench.switch(0);
         bench
     }
 
@@ -71,10 +71,9 @@ impl Bench {
         assert_eq!(self.go(call).code, code, "{call:?}");
     }
 
-    /// Yields if one runs, then starts `place`.
+    /// Hands over to `place`, which is accepted.
     fn switch(&mut self, place: u8) {
-        self.go(Call::Yield);
-        self.accept(Call::Start { place });
+        assert_eq!(self.accept(Call::HandOver { place }), 0);
     }
 
     fn put(&mut self, offset: u16, bytes: &[u8]) {
@@ -278,15 +277,15 @@ fn retrieve_of_an_empty_value() {
 fn heap_is_cleared_at_exit() {
     let mut bench = Bench::busy();
     bench.put(0, &[9; 256]);
-    bench.accept(Call::Yield);
+    bench.switch(NONE_RUNS);
     assert_eq!(bench.host.heaps[..256], [9; 256]);
-    bench.accept(Call::Start { place: 0 });
+    bench.switch(0);
     assert_eq!(bench.get(0, 256), [9; 256]);
     bench.accept(Call::Exit);
     assert!(bench.host.heaps.iter().all(|&byte| byte == 0));
     assert_eq!(bench.host.record.identities[0], 0);
     assert_eq!((bench.host.record.taken, bench.host.record.running), (6, 16));
-    bench.refuse(7, Call::Start { place: 0 });
+    bench.refuse(7, Call::HandOver { place: 0 });
     assert_eq!(bench.accept(Call::Report), 2);
     bench.accept(Call::Create { place: 0, identity: 4 });
     bench.switch(0);
@@ -316,6 +315,96 @@ fn free_handle_among_all_rows() {
     assert_eq!(bench.protect(1, 0, 5, 7), 5 * DRAW_LIMIT + 9);
     assert_eq!(bench.protect(1, 0, 5, 8), 5 * DRAW_LIMIT + 10);
     assert_eq!(bench.protect(1, 0, 6, 7), 6 * DRAW_LIMIT + 7);
+}
+
+// Hand over.
+
+#[test]
+fn hand_over_to_16() {
+    let mut bench = Bench::fresh();
+    // Accepted though none runs and no place is taken.
+    bench.switch(16);
+    assert!(bench.host == Host::fresh());
+    let mut bench = Bench::busy();
+    bench.put(3, b"kept");
+    let mut wanted = bench.host.clone();
+    wanted.record.running = 16;
+    bench.switch(16);
+    assert!(bench.host == wanted);
+    bench.switch(16);
+    assert!(bench.host == wanted);
+    bench.refuse(4, Call::HeapRead { place: 0, offset: 3, length: 4 });
+    bench.switch(0);
+    assert_eq!(bench.get(3, 4), b"kept");
+}
+
+#[test]
+fn hand_over_to_another_place_and_back() {
+    let mut bench = Bench::busy();
+    bench.put(0, b"first");
+    bench.switch(2);
+    bench.refuse(8, Call::HeapRead { place: 0, offset: 0, length: 5 });
+    assert_eq!(bench.get(0, 5), [0; 5]);
+    bench.put(0, b"third");
+    bench.switch(0);
+    bench.refuse(8, Call::HeapRead { place: 2, offset: 0, length: 5 });
+    assert_eq!(bench.get(0, 5), b"first");
+    bench.switch(2);
+    assert_eq!(bench.get(0, 5), b"third");
+}
+
+#[test]
+fn hand_over_to_the_running_place_alters_nothing() {
+    let mut bench = Bench::busy();
+    bench.put(0, b"same");
+    bench.accept(Call::Attest { offset: 0, length: 4 });
+    bench.protect(2, 0, 4, 7);
+    let before = bench.host.clone();
+    bench.switch(0);
+    assert!(bench.host == before);
+    assert_eq!(bench.get(0, 4), b"same");
+}
+
+/// From each state of a box whose even places are taken, to each byte: the code
+/// is 0, 6 or 7 by the place alone, and the running place alone is altered.
+#[test]
+fn hand_over_from_every_place_to_every_byte() {
+    let mut bench = Bench::fresh();
+    for place in (0..16).step_by(2) {
+        bench.accept(Call::Create { place, identity: u64::from(place) + 1 });
+        bench.switch(place);
+        bench.put(0, &[place + 1; 256]);
+    }
+    let even = bench.host.clone();
+    for running in (0..=16).step_by(2) {
+        for place in 0..=255 {
+            let mut wanted = even.clone();
+            wanted.record.running = running;
+            bench.host = wanted.clone();
+            let code = match place {
+                17..=255 => 6,
+                _ if place % 2 == 1 => 7,
+                _ => 0,
+            };
+            if code == 0 {
+                wanted.record.running = place;
+            }
+            let answer = bench.go(Call::HandOver { place });
+            assert_eq!((answer.code, answer.number), (code, 0), "{running} to {place}");
+            assert!(bench.host == wanted, "{running} to {place}");
+        }
+    }
+}
+
+/// The old service is still there to be called.
+#[test]
+fn a_refused_hand_over_leaves_the_old_service_running() {
+    let mut bench = Bench::busy();
+    bench.put(9, b"old");
+    for (place, code) in [(3, 7), (15, 7), (17, 6), (18, 6), (255, 6)] {
+        bench.refuse(code, Call::HandOver { place });
+        assert_eq!(bench.get(9, 3), b"old");
+    }
 }
 
 // Boundaries.
@@ -492,7 +581,6 @@ fn escrow_of_64_rows() {
 #[test]
 fn order_when_none_runs() {
     let mut bench = Bench::fresh();
-    bench.refuse(4, Call::Yield);
     bench.refuse(4, Call::Exit);
     bench.refuse(4, Call::HeapWrite { place: 16, offset: 300, bytes: b"x" });
     bench.refuse(4, Call::HeapRead { place: 16, offset: 300, length: 1 });
@@ -505,24 +593,27 @@ fn order_when_none_runs() {
     bench.check(1, b"", 0);
     bench.accept(Call::SharedWrite { offset: 0, bytes: b"x" });
     bench.accept(Call::SharedRead { offset: 0, length: 1 });
+    bench.switch(NONE_RUNS);
+    bench.switch(0);
 }
 
 #[test]
-fn order_in_create_and_start() {
+fn order_in_create_and_hand_over() {
     let mut bench = Bench::fresh();
     bench.refuse(6, Call::Create { place: 16, identity: 0 });
     bench.refuse(9, Call::Create { place: 3, identity: 0 });
     bench.accept(Call::Create { place: 3, identity: 1 });
     bench.refuse(7, Call::Create { place: 3, identity: 0 });
     bench.refuse(7, Call::Create { place: 3, identity: 1 });
-    bench.refuse(6, Call::Start { place: 16 });
-    bench.refuse(6, Call::Start { place: 19 });
-    bench.refuse(7, Call::Start { place: 4 });
-    bench.accept(Call::Start { place: 3 });
-    bench.refuse(5, Call::Start { place: 3 });
-    bench.refuse(5, Call::Start { place: 4 });
-    bench.refuse(5, Call::Start { place: 16 });
+    // Whether or not a service runs; a place above 16 is 6 whichever are taken.
+    for _ in 0..2 {
+        bench.refuse(6, Call::HandOver { place: 17 });
+        bench.refuse(6, Call::HandOver { place: 19 });
+        bench.refuse(7, Call::HandOver { place: 4 });
+        bench.switch(3);
+    }
     bench.accept(Call::Create { place: 4, identity: 1 });
+    bench.switch(4);
 }
 
 #[test]
@@ -561,7 +652,7 @@ fn order_in_attest_protect_retrieve() {
 
 #[test]
 fn order_of_15_and_the_record() {
-    let records: [&[u8]; 5] = [&[], &[2], &[1], &[1, 14], &[3, 3]];
+    let records: [&[u8]; 6] = [&[], &[2], &[1], &[1, 15], &[3, 2, 0], &[1, 14]];
     for record in records {
         let mut host = Host::fresh();
         assert_eq!(host.call(&mut [0; 1_023], record).code, 15);
@@ -571,16 +662,23 @@ fn order_of_15_and_the_record() {
     }
     // Kind before map, map before a cut field, the record before the call.
     let mut bench = Bench::fresh();
-    let cases: [(u8, &[u8]); 11] = [
+    let cases: [(u8, &[u8]); 18] = [
         (1, &[]),
         (2, &[0x00]),
         (2, &[0x06, 1]),
         (1, &[0xFF]),
-        (2, &[0xFF, 14]),
+        (2, &[0xFF, 15]),
         (2, &[0xFF, 0]),
+        (2, &[0x03, 2]),
+        (2, &[0x03, 2, 0]),
+        (2, &[0x01, 3]),
+        (2, &[0x81, 3]),
         (3, &[0xFF, 1]),
-        (3, &[0x81, 3]),
+        (3, &[0xFF, 14]),
+        (3, &[0x01, 14]),
+        (3, &[0x81, 4]),
         (1, &[0x07, 1]),
+        (1, &[0x03, 14]),
         (1, &[0x4B, 5, 16, 0, 0, 1, 0]),
         (4, &[0x4B, 5, 16, 0, 0, 1, 0, 9]),
     ];
@@ -598,19 +696,21 @@ fn an_entry_that_reads_no_record_uses_none() {
     let mut output = [0; OUTPUT_SIZE];
     let mut sound_box = SoundBox::new(&mut tables, &mut output).unwrap();
     assert_eq!(sound_box.perform(&Call::Report), Answer::default());
-    assert_eq!(sound_box.perform(&Call::Yield), Answer { code: 4, ..Answer::default() });
+    assert_eq!(sound_box.perform(&Call::Exit), Answer { code: 4, ..Answer::default() });
 }
 
 // The answer sheet.
 
+/// Document 01's example with hand overs, to place 0 and to 16, and an exit with
+/// none running at its end.
 const EXAMPLE: [&[u8]; 7] = [
     &[0x07, 0x01, 0, 1, 0, 0, 0, 0, 0, 0, 0],
-    &[0x03, 0x02, 0],
+    &[0x03, 0x0E, 0],
     &[0x4B, 0x05, 0, 0, 0, 1, 0, 0x41],
     &[0x3D, 0x0B, 1, 0, 0, 0, 0, 0, 0, 0, 0, 0, 1, 0, 7, 0, 0, 0, 0, 0, 0, 0],
     &[0x01, 0x0D],
-    &[0x01, 0x03],
-    &[0x01, 0x03],
+    &[0x03, 0x0E, 0x10],
+    &[0x01, 0x04],
 ];
 
 fn sheet_text(script: &[u8]) -> String {
@@ -626,22 +726,41 @@ code number used bytes
 0 1 8 -
 0 281474976710663 22 -
 0 65537 2 -
-0 0 2 -
+0 0 3 -
 4 0 2 -
 ";
     assert_eq!(sheet_text(&EXAMPLE.concat()), expected);
 }
 
+/// Document 01's own script starts and yields by kinds 2 and 3, which are
+/// retired, so its sheet now ends at the second record.
+#[test]
+fn the_base_example_stops_at_its_start() {
+    let mut script = EXAMPLE;
+    script[1] = &[0x03, 0x02, 0];
+    script[5] = &[0x01, 0x03];
+    script[6] = &[0x01, 0x03];
+    let expected = "\
+code number used bytes
+0 0 11 -
+2 0 0 -
+";
+    assert_eq!(sheet_text(&script.concat()), expected);
+}
+
 #[test]
 fn sheet_stops_after_1_2_and_3() {
     assert_eq!(sheet(&[]), HEADER);
-    let cases: [(&[u8], &str); 6] = [
+    let cases: [(&[u8], &str); 9] = [
         (&[1, 13, 1], "0 0 2 -\n1 0 0 -\n"),
         (&[1, 13, 2, 1, 13], "0 0 2 -\n2 0 0 -\n"),
-        (&[1, 13, 1, 14, 1, 13], "0 0 2 -\n2 0 0 -\n"),
+        (&[1, 13, 1, 15, 1, 13], "0 0 2 -\n2 0 0 -\n"),
+        (&[1, 13, 3, 2, 0, 1, 13], "0 0 2 -\n2 0 0 -\n"),
+        (&[1, 13, 1, 3, 1, 13], "0 0 2 -\n2 0 0 -\n"),
         (&[1, 13, 3, 13, 1, 13], "0 0 2 -\n3 0 0 -\n"),
-        (&[1, 13, 3, 2], "0 0 2 -\n1 0 0 -\n"),
-        (&[1, 3, 1, 13], "4 0 2 -\n0 0 2 -\n"),
+        (&[1, 13, 1, 14, 1, 13], "0 0 2 -\n3 0 0 -\n"),
+        (&[1, 13, 3, 14], "0 0 2 -\n1 0 0 -\n"),
+        (&[1, 4, 3, 14, 16, 1, 13], "4 0 2 -\n0 0 3 -\n0 0 2 -\n"),
     ];
     for (script, lines) in cases {
         assert_eq!(sheet_text(script), format!("code number used bytes\n{lines}"));
@@ -696,10 +815,10 @@ impl Random {
     }
 
     fn record(&mut self, numbers: &[u64]) -> Vec<u8> {
-        // Yields and exits are rare, so that the tables fill.
+        // Exits are rare, so that the tables fill.
         let kind = match self.below(24) {
-            0 => 3 + self.below(2) as u8,
-            1..=3 => 2,
+            0 => [4, 14][self.below(2) as usize],
+            1..=3 => 14,
             n => [1, 5, 5, 5, 6, 7, 8, 9, 9, 9, 9, 10, 10, 11, 11, 11, 12, 12, 12, 13]
                 [n as usize - 4],
         };
@@ -740,9 +859,10 @@ fn random_scripts() {
             let mut record = random.record(&numbers);
             if n == 1_599 {
                 // The last is malformed in one way or another.
-                match random.below(3) {
+                match random.below(4) {
                     0 => record[0] ^= 1 << random.below(8),
                     1 => record[1] = random.below(256) as u8,
+                    2 => record[1] = 2 + random.below(2) as u8,
                     _ => drop(record.pop()),
                 }
             }
@@ -762,6 +882,6 @@ fn random_scripts() {
         }
         assert_eq!(sheet_text(&script), expected);
     }
-    // Every refusal a record can meet in a sound box was met.
-    assert!((0..=14).all(|code| codes[code] > 0), "{codes:?}");
+    // Every refusal a record can meet in a sound box was met. 5 is retired.
+    assert!((0..18).all(|code| (codes[code] > 0) == (code <= 14 && code != 5)), "{codes:?}");
 }

@@ -14,10 +14,13 @@ use std::io::{self, ErrorKind, Write};
 use std::process::{Command, ExitCode, Stdio};
 use std::{env, thread};
 
-use differential::{cases, play, Case};
+use differential::{cases, lines, play, Case, HandOvers};
 use second::{sheet, ROWS, VALUES_SIZE};
 
 const COUNT: u64 = 2_400;
+
+/// More hand overs of each sort than this are in the generated scripts.
+const HAND_OVERS: u64 = 100;
 
 /// So many failures are printed in full.
 const PRINTED: u64 = 10;
@@ -38,17 +41,13 @@ fn main() -> ExitCode {
     for case in cases::all() {
         marker.compare(&program, &case);
     }
-    let mut full = Full::default();
+    let mut generated = Generated::default();
     for seed in first..first.saturating_add(count) {
-        let played = play(seed);
-        full.count(&played.host.record);
-        let name = format!("generated script, seed {seed}");
-        marker.compare(&program, &Case::bare(name, played.script));
+        generated.compare(&mut marker, &program, seed);
     }
     marker.coverage();
     if count >= COUNT {
-        marker.check("generated scripts that fill the tables", full.everywhere());
-        println!("{full}");
+        generated.coverage(&mut marker);
     }
     marker.summary()
 }
@@ -57,23 +56,25 @@ fn number(argument: OsString) -> Option<u64> {
     argument.to_str()?.parse().ok()
 }
 
-/// The refusals that document 01 gives to each kind, from kind 1 on. The
+/// The kinds and the refusals that documents 01 and 02 give to each. The
 /// reader's come before a kind is known.
-const REFUSALS: [&[usize]; 13] = [
-    &[6, 7, 9],
-    &[5, 6, 7],
-    &[4],
-    &[4],
-    &[4, 6, 8, 11],
-    &[4, 6, 8, 11],
-    &[11],
-    &[11],
-    &[4, 11, 13],
-    &[9],
-    &[4, 9, 11, 12, 14],
-    &[4, 9, 10, 11],
-    &[],
+const REFUSALS: [(usize, &[usize]); 12] = [
+    (1, &[6, 7, 9]),
+    (4, &[4]),
+    (5, &[4, 6, 8, 11]),
+    (6, &[4, 6, 8, 11]),
+    (7, &[11]),
+    (8, &[11]),
+    (9, &[4, 11, 13]),
+    (10, &[9]),
+    (11, &[4, 9, 11, 12, 14]),
+    (12, &[4, 9, 10, 11]),
+    (13, &[]),
+    (14, &[6, 7]),
 ];
+
+/// Codes that no sheet shows: 5 is retired, the two others are the host's.
+const NEVER: [usize; 3] = [5, 15, 17];
 
 /// Counts what passed and failed, and what was met on the way.
 #[derive(Default)]
@@ -82,8 +83,8 @@ struct Marker {
     failed: u64,
     /// Lines with each code.
     codes: [u64; 18],
-    /// Lines with each code above 3, and accepted ones, for each kind.
-    kinds: [[u64; 18]; 14],
+    /// Lines with each code above 3, and accepted ones, for each kind byte.
+    kinds: [[u64; 18]; 15],
 }
 
 impl Marker {
@@ -101,8 +102,8 @@ impl Marker {
     }
 
     /// One script: the program's sheet, the one of `second`, and where there is
-    /// one the sheet written by hand.
-    fn compare(&mut self, program: &OsStr, case: &Case) {
+    /// one the sheet written by hand. Gives the one of `second`.
+    fn compare(&mut self, program: &OsStr, case: &Case) -> Vec<u8> {
         let expected = sheet(&case.script);
         self.count_lines(&case.script, &expected);
         let by_hand = match &case.sheet {
@@ -115,19 +116,16 @@ impl Marker {
         });
         let with_script = |message| format!("{message}\nscript: {}", hex(&case.script));
         self.check(&case.name, outcome.map_err(with_script));
+        expected
     }
 
     /// Counts the lines by code, and by the kind of the record where one was read.
     fn count_lines(&mut self, script: &[u8], sheet: &[u8]) {
-        let mut rest = script;
-        for line in sheet.split(|&byte| byte == b'\n').skip(1).filter(|line| !line.is_empty()) {
-            let mut fields = line.split(|&byte| byte == b' ');
-            let (code, used) = (field(fields.next()), field(fields.nth(1)));
-            self.codes[code] += 1;
-            if used > 0 {
-                self.kinds[usize::from(rest[1])][code] += 1;
+        for line in lines(script, sheet) {
+            self.codes[line.code] += 1;
+            if let Some(record) = line.record() {
+                self.kinds[usize::from(record[1])][line.code] += 1;
             }
-            rest = &rest[used..];
         }
     }
 
@@ -138,15 +136,20 @@ impl Marker {
         for (code, lines) in self.codes.iter().enumerate() {
             println!("{code:7} {lines}");
         }
-        for code in (0..=17).filter(|code| ![15, 17].contains(code)) {
+        for code in (0..=17).filter(|code| !NEVER.contains(code)) {
             let met = self.codes[code] > 0;
             self.check(&format!("lines with {code}"), met.then_some(()).ok_or("none".into()));
         }
-        for code in [15, 17] {
+        for code in NEVER {
             let met = self.codes[code] > 0;
             self.check(&format!("no line with {code}"), (!met).then_some(()).ok_or("some".into()));
         }
-        for (kind, refusals) in (1..).zip(REFUSALS) {
+        for kind in [0, 2, 3] {
+            let read = self.kinds[kind].iter().any(|&lines| lines > 0);
+            let outcome = (!read).then_some(()).ok_or("some".into());
+            self.check(&format!("no record of kind {kind} read"), outcome);
+        }
+        for (kind, refusals) in REFUSALS {
             let met: Vec<usize> = (1..18).filter(|&code| self.kinds[kind][code] > 0).collect();
             let all = met == refusals && self.kinds[kind][0] > 0;
             let outcome = if all { Ok(()) } else { Err(format!("met {met:?}")) };
@@ -160,6 +163,38 @@ impl Marker {
         }
         println!("{} passed, {} failed", self.passed, self.failed);
         ExitCode::from(u8::from(self.failed > 0))
+    }
+}
+
+/// What the generated scripts come to.
+#[derive(Default)]
+struct Generated {
+    full: Full,
+    hand_overs: HandOvers,
+    /// Hand overs refused and followed by a call of the service that runs.
+    left_running: u64,
+}
+
+impl Generated {
+    /// The script of this seed.
+    fn compare(&mut self, marker: &mut Marker, program: &OsStr, seed: u64) {
+        let played = play(seed);
+        self.full.count(&played.host.record);
+        let case = Case::bare(format!("generated script, seed {seed}"), played.script);
+        let sheet = marker.compare(program, &case);
+        self.left_running += self.hand_overs.count(&case.script, &sheet);
+    }
+
+    /// Tables were filled, and hand overs of each sort came often.
+    fn coverage(&self, marker: &mut Marker) {
+        let Generated { full, hand_overs, left_running } = self;
+        marker.check("generated scripts that fill the tables", full.everywhere());
+        println!("{full}");
+        let often = hand_overs.each_above(HAND_OVERS) && *left_running > HAND_OVERS;
+        let outcome = often.then_some(()).ok_or(format!("not all above {HAND_OVERS}"));
+        marker.check("hand overs of each sort in generated scripts", outcome);
+        println!("in generated scripts, {hand_overs}");
+        println!("refused and followed by a call of who runs: {left_running}");
     }
 }
 
@@ -248,10 +283,4 @@ fn shown(line: Option<&[u8]>) -> String {
 
 fn hex(bytes: &[u8]) -> String {
     bytes.iter().map(|byte| format!("{byte:02x}")).collect()
-}
-
-/// A decimal field of a line.
-fn field(digits: Option<&[u8]>) -> usize {
-    let digits = digits.and_then(|digits| std::str::from_utf8(digits).ok());
-    digits.and_then(|digits| digits.parse().ok()).expect("a line has its fields")
 }

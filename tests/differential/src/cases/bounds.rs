@@ -2,10 +2,10 @@
 
 use second::{tag_of, Call};
 
-use super::{first_fault, handle, switch, three_services};
+use super::{first_fault, handle, three_services};
 use crate::calls::{
-    attest, check, create, heap_read, heap_write, protect, retrieve, shared_read, shared_write,
-    start,
+    attest, check, create, hand_over, heap_read, heap_write, protect, retrieve, shared_read,
+    shared_write,
 };
 use crate::case::Case;
 
@@ -80,7 +80,7 @@ fn heap_writes() -> Case {
         }
         case.show(&heap, heap_read(0, 0, 256));
     }
-    switch(&mut case, 1);
+    case.accept(0, hand_over(1));
     case.show(&[0; 256], heap_read(1, 0, 256));
     case
 }
@@ -118,7 +118,7 @@ fn protects() -> Case {
         escrowed.extend(value.map(|value| (handle(length, draw), value)));
     }
     case.accept(3 + 65_536 * escrowed.len() as u64, Call::Report);
-    switch(&mut case, 1);
+    case.accept(0, hand_over(1));
     for (handle, value) in escrowed {
         let length = value.len() as u16;
         case.accept(u64::from(length), retrieve(1, 0, handle));
@@ -136,7 +136,7 @@ fn retrieves() -> Case {
     for length in lengths {
         case.accept(handle(length, 9), protect(2, 0, length, 9));
     }
-    switch(&mut case, 1);
+    case.accept(0, hand_over(1));
     let blank = [0xEE; 256];
     for offset in OFFSETS {
         for length in lengths {
@@ -214,15 +214,16 @@ fn places() -> Case {
     }
     case.accept(16, Call::Report);
     for place in 0..=255 {
-        if place > 15 {
-            case.refuse(6, start(place));
-        } else {
-            case.accept(0, start(place));
-            case.accept(1, heap_write(place, 0, &[place + 1]));
-            case.accept(0, Call::Yield);
+        match place {
+            0..=15 => {
+                case.accept(0, hand_over(place));
+                case.accept(1, heap_write(place, 0, &[place + 1]));
+            }
+            16 => case.accept(0, hand_over(place)),
+            _ => case.refuse(6, hand_over(place)),
         }
     }
-    case.accept(0, start(7));
+    case.accept(0, hand_over(7));
     for place in 0..=255 {
         let code = first_fault(&[(6, place > 15), (8, place != 7)]);
         case.answer(code, 1, heap_write(place, 255, &[9]));

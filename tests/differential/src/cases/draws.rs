@@ -2,8 +2,8 @@
 
 use second::Call;
 
-use super::{handle, switch, three_services};
-use crate::calls::{heap_read, heap_write, protect, retrieve};
+use super::{handle, three_services};
+use crate::calls::{hand_over, heap_read, heap_write, protect, retrieve};
 use crate::case::Case;
 
 const LIMIT: u64 = 1 << 48;
@@ -100,11 +100,11 @@ fn among_all_rows() -> Case {
     case.accept(handle(5, 7), protect(2, 0, 5, 7));
     case.accept(handle(5, 8), protect(3, 0, 5, 7));
     case.accept(handle(5, 9), protect(1, 0, 5, 7));
-    switch(&mut case, 1);
+    case.accept(0, hand_over(1));
     case.accept(handle(5, 10), protect(2, 0, 5, 7));
     case.accept(handle(5, 11), protect(99, 0, 5, 8));
     case.accept(0, Call::Exit);
-    case.accept(0, crate::calls::start(2));
+    case.accept(0, hand_over(2));
     case.accept(handle(5, 12), protect(3, 0, 5, 10));
     case.accept(handle(5, 13), protect(3, 0, 5, 7));
     case

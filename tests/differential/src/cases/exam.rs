@@ -1,9 +1,9 @@
-//! Document 01's example and its exam cases.
+//! Document 01's example and its exam cases, and those that hand over adds.
 
 use second::{tag_of, Call};
 
-use super::{handle, switch, three_services};
-use crate::calls::{attest, check, create, heap_read, heap_write, protect, retrieve};
+use super::{handle, three_services};
+use crate::calls::{attest, check, create, hand_over, heap_read, heap_write, protect, retrieve};
 use crate::case::Case;
 
 const LAST_DRAW: u64 = 281_474_976_710_655;
@@ -11,6 +11,7 @@ const LAST_DRAW: u64 = 281_474_976_710_655;
 pub fn cases() -> Vec<Case> {
     vec![
         example(),
+        base_example(),
         a_b(),
         c_d(),
         e_f(),
@@ -22,11 +23,41 @@ pub fn cases() -> Vec<Case> {
         draw_too_large(),
         check_of_identity_0(),
         pair_65(),
+        hand_over_to_16(),
+        hand_over_to_the_running_place(),
+        hand_over_to_an_empty_place(),
+        hand_over_to_17(),
+        retired("exam, kind 2", &[0x03, 0x02, 0x00]),
+        retired("exam, kind 3", &[0x01, 0x03]),
     ]
 }
 
-/// The script and the sheet as document 01 prints them.
+/// The example paper: document 01's script with hand overs, to place 0 and to
+/// 16, for its start and its first yield, and an exit for its last.
 fn example() -> Case {
+    let script = b"\x07\x01\x00\x01\x00\x00\x00\x00\x00\x00\x00\
+        \x03\x0E\x00\
+        \x4B\x05\x00\x00\x00\x01\x00\x41\
+        \x3D\x0B\x01\x00\x00\x00\x00\x00\x00\x00\x00\x00\x01\x00\x07\x00\x00\x00\x00\x00\x00\x00\
+        \x01\x0D\
+        \x03\x0E\x10\
+        \x01\x04";
+    let sheet = "\
+code number used bytes
+0 0 11 -
+0 0 3 -
+0 1 8 -
+0 281474976710663 22 -
+0 65537 2 -
+0 0 3 -
+4 0 2 -
+";
+    Case { name: "the example".into(), script: script.to_vec(), sheet: Some(sheet.into()) }
+}
+
+/// The script as document 01 prints it. Kind 2 is retired, so the sheet ends at
+/// the second record.
+fn base_example() -> Case {
     let script = b"\x07\x01\x00\x01\x00\x00\x00\x00\x00\x00\x00\
         \x03\x02\x00\
         \x4B\x05\x00\x00\x00\x01\x00\x41\
@@ -37,18 +68,10 @@ fn example() -> Case {
     let sheet = "\
 code number used bytes
 0 0 11 -
-0 0 3 -
-0 1 8 -
-0 281474976710663 22 -
-0 65537 2 -
-0 0 2 -
-4 0 2 -
+2 0 0 -
 ";
-    Case {
-        name: "document 01's example".into(),
-        script: script.to_vec(),
-        sheet: Some(sheet.into()),
-    }
+    let name = "document 01's example, as it stands there".into();
+    Case { name, script: script.to_vec(), sheet: Some(sheet.into()) }
 }
 
 fn a_b() -> Case {
@@ -84,10 +107,10 @@ fn i() -> Case {
     let mut case = three_services("exam I");
     case.accept(handle(5, 7), protect(2, 0, 5, 7));
     case.refuse(10, retrieve(1, 300, handle(5, 7)));
-    switch(&mut case, 2);
+    case.accept(0, hand_over(2));
     case.refuse(10, retrieve(1, 300, handle(5, 7)));
     case.refuse(10, retrieve(1, 0, handle(5, 7)));
-    switch(&mut case, 1);
+    case.accept(0, hand_over(1));
     case.refuse(11, retrieve(1, 300, handle(5, 7)));
     case.accept(5, retrieve(1, 0, handle(5, 7)));
     case
@@ -146,5 +169,44 @@ fn pair_65() -> Case {
         attested(&mut case, 0, n);
     }
     case.accept(3 + 256 * 64, Call::Report);
+    case
+}
+
+/// Place 16 only yields, and is accepted when none runs.
+fn hand_over_to_16() -> Case {
+    let mut case = Case::new("exam, hand over to 16 with none running");
+    case.accept(0, hand_over(16));
+    case.refuse(4, Call::Exit);
+    case
+}
+
+fn hand_over_to_the_running_place() -> Case {
+    let mut case = three_services("exam, hand over to the running place");
+    case.accept(3, heap_write(0, 0, b"own"));
+    case.accept(0, hand_over(0));
+    case.show(b"own", heap_read(0, 0, 3));
+    case
+}
+
+/// The old service goes on running.
+fn hand_over_to_an_empty_place() -> Case {
+    let mut case = three_services("exam, hand over to an empty place");
+    case.refuse(7, hand_over(3));
+    case.accept(0, heap_read(0, 0, 0));
+    case
+}
+
+/// The old service goes on running.
+fn hand_over_to_17() -> Case {
+    let mut case = three_services("exam, hand over to 17");
+    case.refuse(6, hand_over(17));
+    case.accept(0, heap_read(0, 0, 0));
+    case
+}
+
+/// A record that was good before its kind was retired.
+fn retired(name: &str, record: &[u8]) -> Case {
+    let mut case = three_services(name);
+    case.malformed(2, record);
     case
 }

@@ -3,7 +3,7 @@
 
 use second::Call;
 
-use crate::calls::{attest, check, create, heap_write, start};
+use crate::calls::{attest, check, create, hand_over, heap_write};
 use crate::case::Case;
 
 pub fn cases() -> Vec<Case> {
@@ -16,7 +16,7 @@ fn case(bytes: &[u8], hash: u64) -> Case {
     let (offset, length) = (40, value.len() as u16);
     let mut case = Case::new(format!("FNV-1a of {}", bytes.escape_ascii()));
     case.accept(6, create(6, identity));
-    case.accept(0, start(6));
+    case.accept(0, hand_over(6));
     case.accept(u64::from(length), heap_write(6, offset, value));
     case.accept(0, check(identity, hash, value));
     case.accept(hash, attest(offset, length));

@@ -2,7 +2,7 @@
 
 use second::Call;
 
-use crate::calls::{check, create, heap_write, record_of, shared_read, shared_write, start};
+use crate::calls::{check, create, hand_over, heap_write, record_of, shared_read, shared_write};
 use crate::case::Case;
 use crate::play::long_script;
 
@@ -74,7 +74,7 @@ fn longest_heap_write() -> [Case; 2] {
     idle.refuse(4, heap_write(0, 0, &[7; LONGEST - 7]));
     let mut running = Case::new("a long heap write while one runs");
     running.accept(0, create(0, 1));
-    running.accept(0, start(0));
+    running.accept(0, hand_over(0));
     running.refuse(11, heap_write(0, 0, &[7; LONGEST - 21]));
     assert_eq!((idle.script.len(), running.script.len()), (LONGEST, LONGEST));
     [idle, running]

@@ -5,15 +5,14 @@ mod bounds;
 mod draws;
 mod exam;
 mod fnv;
+mod hand_overs;
 mod limits;
 mod order;
 mod reader;
 mod services;
 mod tables;
 
-use second::Call;
-
-use crate::calls::{create, start};
+use crate::calls::{create, hand_over};
 use crate::case::Case;
 
 /// All of them.
@@ -25,6 +24,7 @@ pub fn all() -> Vec<Case> {
         tables::cases(),
         draws::cases(),
         services::cases(),
+        hand_overs::cases(),
         order::cases(),
         reader::cases(),
         limits::cases(),
@@ -38,14 +38,8 @@ fn three_services(name: &str) -> Case {
     for place in 0..3 {
         case.accept(u64::from(place), create(place, u64::from(place) + 1));
     }
-    case.accept(0, start(0));
+    case.accept(0, hand_over(0));
     case
-}
-
-/// Yields and starts another place.
-fn switch(case: &mut Case, place: u8) {
-    case.accept(0, Call::Yield);
-    case.accept(0, start(place));
 }
 
 /// The handle of a length and a draw.

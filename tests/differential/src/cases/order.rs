@@ -1,21 +1,22 @@
 //! Several faults at once: the lowest number is given. Every set of faults that
 //! a kind can have is tried, and the box is shown unaltered at the end.
 
-use second::{tag_of, Call};
+use second::{tag_of, Call, NONE_RUNS};
 
-use super::{first_fault, handle, switch, three_services};
+use super::{first_fault, handle, three_services};
 use crate::calls::{
-    attest, check, create, heap_read, heap_write, protect, retrieve, shared_read, shared_write,
-    start,
+    attest, check, create, hand_over, heap_read, heap_write, protect, retrieve, shared_read,
+    shared_write,
 };
 use crate::case::Case;
 
+/// While a service runs, and then while none does.
 const BOTH: [bool; 2] = [true, false];
 
 pub fn cases() -> Vec<Case> {
     vec![
         creates(),
-        starts(),
+        hand_overs(),
         heap_calls(),
         shared_calls(),
         attests(),
@@ -37,27 +38,29 @@ fn creates() -> Case {
                 case.answer(first_fault(&faults), u64::from(place), create(place, identity));
             }
         }
-        case.answer(if free == 5 { 0 } else { 4 }, 0, Call::Yield);
+        case.accept(0, hand_over(NONE_RUNS));
     }
     case.accept(5, Call::Report);
     case
 }
 
-/// 5, 6 and 7.
-fn starts() -> Case {
-    let mut case = three_services("order in start");
+/// 6 and 7, whether or not a service runs: never 4, 5 or 8. Who ran before a
+/// refusal runs after it.
+fn hand_overs() -> Case {
+    let mut case = three_services("order in hand over");
+    case.accept(1, heap_write(0, 200, b"k"));
     for running in BOTH {
-        for place in [5, 15, 16, 255] {
-            let faults = [(5, running), (6, place > 15), (7, true)];
-            case.refuse(first_fault(&faults), start(place));
+        for place in [3, 5, 15, 17, 18, 31, 32, 33, 128, 255] {
+            let faults = [(6, place > 16), (7, place > 2)];
+            case.refuse(first_fault(&faults), hand_over(place));
+            match running {
+                true => case.show(b"k", heap_read(0, 200, 1)),
+                false => case.refuse(4, heap_read(0, 200, 1)),
+            }
         }
-        if running {
-            case.refuse(5, start(0));
-            case.refuse(5, start(1));
-            case.accept(0, Call::Yield);
-        }
+        case.accept(0, hand_over(NONE_RUNS));
     }
-    case.accept(0, start(1));
+    case.accept(0, hand_over(1));
     case.accept(3, Call::Report);
     case
 }
@@ -79,9 +82,9 @@ fn heap_calls() -> Case {
                 }
             }
         }
-        case.answer(if running { 0 } else { 4 }, 0, Call::Yield);
+        case.accept(0, hand_over(NONE_RUNS));
     }
-    case.accept(0, start(0));
+    case.accept(0, hand_over(0));
     let mut heap = [0; 256];
     heap[200] = b'k';
     case.show(&heap, heap_read(0, 0, 256));
@@ -91,13 +94,13 @@ fn heap_calls() -> Case {
 /// 11 alone, whether or not a service runs.
 fn shared_calls() -> Case {
     let mut case = three_services("order in shared write and read");
-    for running in BOTH {
+    for _ in BOTH {
         case.refuse(11, shared_write(1_024, b"x"));
         case.refuse(11, shared_write(65_535, b"x"));
         case.refuse(11, shared_read(1, 1_024));
         case.refuse(11, shared_read(1_025, 0));
         case.show(&[0; 1_024], shared_read(0, 1_024));
-        case.answer(if running { 0 } else { 4 }, 0, Call::Yield);
+        case.accept(0, hand_over(NONE_RUNS));
     }
     case
 }
@@ -118,9 +121,9 @@ fn attests() -> Case {
             }
             let faults = [(4, !running), (13, full)];
             case.answer(first_fault(&faults), tag_of(1, &[200]).0, attest(1, 1));
-            case.answer(if running { 0 } else { 4 }, 0, Call::Yield);
+            case.accept(0, hand_over(NONE_RUNS));
         }
-        case.accept(0, start(0));
+        case.accept(0, hand_over(0));
         if !full {
             case.accept(3 + 256 * 2, Call::Report);
             case.accept(1, heap_write(0, 1, &[201]));
@@ -146,7 +149,7 @@ fn fill_log(case: &mut Case) {
 fn checks() -> Case {
     let mut case = three_services("order in check");
     case.accept(tag_of(1, &[0; 3]).0, attest(0, 3));
-    for running in BOTH {
+    for _ in BOTH {
         for identity in [0, 1, 2] {
             for count in [3, 256, 257, 1_000] {
                 let bytes = &[0; 1_000][..count];
@@ -155,7 +158,7 @@ fn checks() -> Case {
                 case.answer(code, u64::from(found), check(identity, tag, bytes));
             }
         }
-        case.answer(if running { 0 } else { 4 }, 0, Call::Yield);
+        case.accept(0, hand_over(NONE_RUNS));
     }
     case
 }
@@ -186,7 +189,7 @@ fn protects(full: bool) -> Case {
                 }
             }
         }
-        case.answer(if running { 0 } else { 4 }, 0, Call::Yield);
+        case.accept(0, hand_over(NONE_RUNS));
     }
     case.accept(3 + 65_536 * (rows + added), Call::Report);
     case
@@ -198,7 +201,7 @@ fn retrieves() -> Case {
     case.accept(5, heap_write(0, 0, b"value"));
     case.accept(handle(5, 7), protect(2, 0, 5, 7));
     for place in [1, 2] {
-        switch(&mut case, place);
+        case.accept(0, hand_over(place));
         for running in BOTH {
             for identity in [0, 1, 3] {
                 for number in [handle(5, 7), handle(5, 8), 0] {
@@ -211,9 +214,9 @@ fn retrieves() -> Case {
                     }
                 }
             }
-            case.answer(if running { 0 } else { 4 }, 0, Call::Yield);
+            case.accept(0, hand_over(NONE_RUNS));
         }
-        case.accept(0, start(place));
+        case.accept(0, hand_over(place));
     }
     case.show(&[0; 256], heap_read(2, 0, 256));
     case

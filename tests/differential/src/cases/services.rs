@@ -2,10 +2,10 @@
 
 use second::{tag_of, Call};
 
-use super::{handle, switch, three_services};
+use super::{handle, three_services};
 use crate::calls::{
-    attest, check, create, heap_read, heap_write, protect, retrieve, shared_read, shared_write,
-    start,
+    attest, check, create, hand_over, heap_read, heap_write, protect, retrieve, shared_read,
+    shared_write,
 };
 use crate::case::Case;
 
@@ -13,7 +13,7 @@ pub fn cases() -> Vec<Case> {
     vec![
         two_places_one_identity(),
         exit_and_a_new_tenant(),
-        yield_keeps_the_heap(),
+        hand_over_keeps_the_heap(),
         sixteen_heaps(),
         check_tests_all_three(),
         checks_of_alike_values(),
@@ -33,12 +33,12 @@ fn two_places_one_identity() -> Case {
     let mut case = Case::new("two places with one identity");
     case.accept(4, create(4, 7));
     case.accept(11, create(11, 7));
-    case.accept(0, start(4));
+    case.accept(0, hand_over(4));
     case.accept(2, heap_write(4, 0, b"ab"));
     case.accept(tag_of(7, b"ab").0, attest(0, 2));
     case.accept(handle(2, 3), protect(7, 0, 2, 3));
     case.refuse(8, heap_read(11, 0, 2));
-    switch(&mut case, 11);
+    case.accept(0, hand_over(11));
     case.refuse(8, heap_write(4, 0, b"x"));
     case.show(&[0; 4], heap_read(11, 0, 4));
     case.accept(2, retrieve(7, 1, handle(2, 3)));
@@ -46,8 +46,8 @@ fn two_places_one_identity() -> Case {
     case.accept(tag_of(7, b"ab").0, attest(1, 2));
     case.accept(2 + 256 + 65_536, Call::Report);
     case.accept(0, Call::Exit);
-    case.refuse(7, start(11));
-    case.accept(0, start(4));
+    case.refuse(7, hand_over(11));
+    case.accept(0, hand_over(4));
     case.show(b"ab", heap_read(4, 0, 2));
     case.accept(2, retrieve(7, 2, handle(2, 3)));
     case.show(b"abab", heap_read(4, 0, 4));
@@ -62,28 +62,28 @@ fn exit_and_a_new_tenant() -> Case {
         case.accept(256, heap_write(0, 0, &[identity as u8; 256]));
         case.accept(0, Call::Exit);
         case.refuse(4, heap_read(0, 0, 1));
-        case.refuse(7, start(0));
+        case.refuse(7, hand_over(0));
         case.accept(2, Call::Report);
         case.accept(0, create(0, identity));
         case.refuse(7, create(0, identity));
-        case.accept(0, start(0));
+        case.accept(0, hand_over(0));
         case.show(&[0; 256], heap_read(0, 0, 256));
     }
-    switch(&mut case, 1);
+    case.accept(0, hand_over(1));
     case.show(&[0; 256], heap_read(1, 0, 256));
     case
 }
 
-fn yield_keeps_the_heap() -> Case {
-    let mut case = three_services("yield keeps the heap");
+fn hand_over_keeps_the_heap() -> Case {
+    let mut case = three_services("hand over keeps the heap");
     case.accept(256, heap_write(0, 0, &[9; 256]));
-    switch(&mut case, 1);
+    case.accept(0, hand_over(1));
     case.show(&[0; 256], heap_read(1, 0, 256));
     case.accept(3, heap_write(1, 253, b"end"));
-    switch(&mut case, 0);
+    case.accept(0, hand_over(0));
     case.show(&[9; 256], heap_read(0, 0, 256));
     case.accept(0, Call::Exit);
-    case.accept(0, start(1));
+    case.accept(0, hand_over(1));
     case.show(b"\0end", heap_read(1, 252, 4));
     case
 }
@@ -93,20 +93,18 @@ fn sixteen_heaps() -> Case {
     let mut case = Case::new("sixteen heaps");
     for place in 0..16 {
         case.accept(u64::from(place), create(place, 1));
-        case.accept(0, start(place));
+        case.accept(0, hand_over(place));
         case.accept(256, heap_write(place, 0, &[place + 1; 256]));
-        case.accept(0, Call::Yield);
         case.accept(u64::from(place) + 1, Call::Report);
     }
-    case.accept(0, start(8));
+    case.accept(0, hand_over(8));
     case.accept(0, Call::Exit);
     case.accept(15, Call::Report);
     case.accept(8, create(8, 2));
     for place in 0..16 {
         let byte = if place == 8 { 0 } else { place + 1 };
-        case.accept(0, start(place));
+        case.accept(0, hand_over(place));
         case.show(&[byte; 256], heap_read(place, 0, 256));
-        case.accept(0, Call::Yield);
     }
     case
 }
@@ -159,12 +157,12 @@ fn retrieve_tests_all_three() -> Case {
     case.accept(given, protect(2, 10, 6, 7));
     case.refuse(10, retrieve(1, 0, given));
     case.refuse(10, retrieve(2, 0, given));
-    switch(&mut case, 2);
+    case.accept(0, hand_over(2));
     for source in [1, 2, 3, 99] {
         case.refuse(10, retrieve(source, 0, given));
     }
     case.show(&[0; 256], heap_read(2, 0, 256));
-    switch(&mut case, 1);
+    case.accept(0, hand_over(1));
     for wrong in [given + 1, given - 1, 7, handle(5, 7), handle(7, 7), 0, u64::MAX] {
         case.refuse(10, retrieve(1, 0, wrong));
     }
@@ -190,14 +188,14 @@ fn values_outlast_their_source() -> Case {
     case.accept(handle(3, 2), protect(6, 0, 3, 2));
     case.accept(3, heap_write(0, 0, b"..."));
     case.accept(0, Call::Exit);
-    case.accept(0, start(1));
+    case.accept(0, hand_over(1));
     case.accept(3, retrieve(1, 0, handle(3, 1)));
     case.show(b"xyz\0", heap_read(1, 0, 4));
     case.refuse(10, retrieve(1, 0, handle(3, 2)));
     case.accept(0, Call::Exit);
     case.accept(1, check(1, tag_of(1, b"xyz").0, b"xyz"));
     case.accept(14, create(14, 6));
-    case.accept(0, start(14));
+    case.accept(0, hand_over(14));
     case.accept(3, retrieve(1, 253, handle(3, 2)));
     case.show(b"\0xyz", heap_read(14, 252, 4));
     case
@@ -233,7 +231,7 @@ fn alike_identities_log() -> Case {
     let mut case = Case::new("alike identities log one value");
     for (place, identity) in (0..).zip(alike()) {
         case.accept(u64::from(place), create(place, identity));
-        case.accept(0, start(place));
+        case.accept(0, hand_over(place));
         let tag = tag_of(identity, &[0]).0;
         case.accept(tag, attest(0, 1));
         for (n, other) in (0..).zip(alike()) {
@@ -241,7 +239,6 @@ fn alike_identities_log() -> Case {
             case.accept(u64::from(n <= place), check(other, tag_of(other, &[0]).0, &[0]));
         }
         case.accept((u64::from(place) + 1) * 257, Call::Report);
-        case.accept(0, Call::Yield);
     }
     case
 }
@@ -251,7 +248,7 @@ fn alike_identities_retrieve() -> Case {
     let [first, others @ ..] = alike();
     let mut case = Case::new("alike identities retrieve");
     case.accept(0, create(0, first));
-    case.accept(0, start(0));
+    case.accept(0, hand_over(0));
     case.accept(2, heap_write(0, 0, b"me"));
     case.accept(handle(2, 5), protect(first, 0, 2, 5));
     for source in others {
@@ -264,16 +261,16 @@ fn alike_identities_retrieve() -> Case {
     case.accept(2, retrieve(first, 2, handle(2, 5)));
     for (place, identity) in (1..).zip(others) {
         case.accept(u64::from(place), create(place, identity));
-        switch(&mut case, place);
+        case.accept(0, hand_over(place));
         case.refuse(10, retrieve(first, 0, handle(2, 5)));
         case.show(&[0; 4], heap_read(place, 0, 4));
     }
-    switch(&mut case, 0);
+    case.accept(0, hand_over(0));
     case.show(b"meme", heap_read(0, 0, 4));
     case
 }
 
-/// Create, check, report and the shared calls need no service.
+/// Create, check, report, hand over and the shared calls need no service.
 fn calls_while_none_runs() -> Case {
     let mut case = Case::new("calls while none runs");
     for place in [3, 0] {
@@ -281,7 +278,7 @@ fn calls_while_none_runs() -> Case {
         case.accept(2, shared_write(1_022, b"zz"));
         case.show(b"zz", shared_read(1_022, 2));
         case.accept(place, create(place as u8, 5));
-        case.refuse(4, Call::Yield);
+        case.accept(0, hand_over(16));
         case.refuse(4, Call::Exit);
         case.refuse(4, heap_write(place as u8, 0, b"x"));
         case.refuse(4, heap_read(place as u8, 0, 0));
@@ -296,7 +293,7 @@ fn calls_while_none_runs() -> Case {
 fn shared_memory_is_shared() -> Case {
     let mut case = three_services("shared memory is shared");
     case.accept(4, shared_write(510, b"four"));
-    switch(&mut case, 1);
+    case.accept(0, hand_over(1));
     case.show(b"four", shared_read(510, 4));
     case.accept(0, Call::Exit);
     case.show(b"\0four\0", shared_read(509, 6));

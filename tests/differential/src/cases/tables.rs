@@ -2,8 +2,8 @@
 
 use second::{tag_of, Call};
 
-use super::{handle, switch, three_services};
-use crate::calls::{attest, check, create, heap_read, heap_write, protect, retrieve};
+use super::{handle, three_services};
+use crate::calls::{attest, check, create, hand_over, heap_read, heap_write, protect, retrieve};
 use crate::case::Case;
 
 pub fn cases() -> Vec<Case> {
@@ -64,10 +64,10 @@ fn full_log_and_known_pairs() -> Case {
     }
     case.refuse(13, attest(0, 2));
     case.refuse(13, attest(0, 0));
-    switch(&mut case, 1);
+    case.accept(0, hand_over(1));
     case.accept(1, heap_write(1, 0, &[5]));
     case.refuse(13, attest(0, 1));
-    switch(&mut case, 9);
+    case.accept(0, hand_over(9));
     case.accept(1, heap_write(9, 200, &[5]));
     case.accept(tag_of(1, &[5]).0, attest(200, 1));
     case.accept(4 + 256 * 64, Call::Report);
@@ -119,7 +119,7 @@ fn escrow_rows() -> Case {
         case.accept(3 + 65_536 * (n + 1).min(64), Call::Report);
     }
     case.refuse(14, protect(2, 0, 0, 0));
-    switch(&mut case, 1);
+    case.accept(0, hand_over(1));
     for n in 0..64 {
         case.accept(1, retrieve(1, 0, handle(1, 100 * n)));
         case.show(&[n as u8], heap_read(1, 0, 1));
@@ -144,7 +144,7 @@ fn escrow_bytes(lengths: &[u16]) -> Case {
     case.refuse(14, protect(2, 0, 1, 500));
     let code = if lengths.len() == 64 { 14 } else { 0 };
     case.answer(code, handle(0, 500), protect(2, 256, 0, 500));
-    switch(&mut case, 1);
+    case.accept(0, hand_over(1));
     for (n, &length) in lengths.iter().enumerate() {
         let mut value = [0xA5; 256];
         value[..2].copy_from_slice(&[n as u8, 0x11]);
