@@ -51,13 +51,15 @@ enum caif_kind {
     CAIF_HAND_OVER = 14    /* place: it runs next, and none where it is CAIF_NONE; a refusal leaves what runs */
 };
 
-/* Codes. A refusal has number 0, shows nothing and alters nothing. Where conditions of several hold, the order is
- * 15; then empty record 1, bit 0 of the map down 2, no kind byte 1, kind 2, map 3, cut field 1; then rising numbers.
+/* Codes. A refusal shows nothing and alters nothing. Its number is 0, but with CAIF_CUT, where it is how many more
+ * bytes finish the field being read: its width less what is there of it. The map and the kind are fields of one byte;
+ * the count of a bytes field and its contents are two fields. Where conditions of several hold, the order is 15; then
+ * empty record 1, bit 0 of the map down 2, no kind byte 1, kind 2, map 3, cut field 1; then rising numbers.
  * Code 5, one already runs, is retired with start: no call gives it, and the number stays reserved and gets no other
  * meaning. */
 enum caif_code {
     CAIF_ACCEPTED = 0,
-    CAIF_CUT = 1,            /* the record ends before a field does, or is empty */
+    CAIF_CUT = 1,            /* the record ends before a field does, or is empty; number: the bytes missing */
     CAIF_UNKNOWN_KIND = 2,   /* bit 0 of the map is down, or the kind is 0, 2, 3 or 15 to 255 */
     CAIF_WRONG_MAP = 3,      /* the map is not the kind's */
     CAIF_NONE_RUNS = 4,      /* exit, heap write, heap read, attest, protect, retrieve */
@@ -111,7 +113,7 @@ struct caif_escrow_row {
 struct caif_reply {
     struct caif_box held;
     uint8_t code;    /* enum caif_code */
-    uint64_t number;
+    uint64_t number; /* with a refusal 0, but with CAIF_CUT the bytes missing */
     size_t used;     /* bytes of the record; 0 with codes 1, 2, 3 and 15 */
     uint16_t shown;  /* how many bytes stand at the front of the output buffer */
 };

@@ -220,7 +220,8 @@ void run_example(struct host *host)
         call(host, &right_sizes, example[n].record, example[n].length);
 }
 
-/* A check of 65,535 bytes fills a buffer of CAIF_RECORD to the last byte, and one byte fewer is too short. */
+/* A check of 65,535 bytes fills a buffer of CAIF_RECORD to the last byte, and one byte fewer is too short. Its record
+ * cut by a byte, and cut behind its count, tells what is missing. */
 static void check_longest(void)
 {
     static uint8_t bytes[65535], out[CAIF_RECORD];
@@ -236,6 +237,10 @@ static void check_longest(void)
     make_fresh(&host);
     struct caif_reply reply = call(&host, &right_sizes, out, CAIF_RECORD);
     check_reply(&reply, CAIF_ACCEPTED, 0, CAIF_RECORD, 0, "the longest record");
+    reply = call(&host, &right_sizes, out, CAIF_RECORD - 1);
+    check_reply(&reply, CAIF_CUT, 1, 0, 0, "the longest record cut by a byte");
+    reply = call(&host, &right_sizes, out, 20);
+    check_reply(&reply, CAIF_CUT, 65535, 0, 0, "the longest record cut behind its count");
 }
 
 void check_calls(void)

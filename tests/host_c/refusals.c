@@ -1,16 +1,30 @@
-/* Refusals through the header. Each alters nothing. */
+/* Refusals through the header. Each alters nothing. A cut record gets how many bytes finish the field being read,
+ * every other refusal number 0. */
 #include "host.h"
 
 static const uint8_t report[] = {0x01, 0x0D};
 
-static void refused(struct host *host, const struct sizes *sizes, const uint8_t *bytes, size_t count, uint8_t code,
-                    size_t used, const char *label)
+/* This answer, with nothing shown and nothing altered. */
+static void answered(struct host *host, const struct sizes *sizes, const uint8_t *bytes, size_t count, uint8_t code,
+                     uint64_t number, size_t used, const char *label)
 {
     static struct host before;
     before = *host;
     struct caif_reply reply = call(host, sizes, bytes, count);
-    check_reply(&reply, code, 0, used, 0, label);
+    check_reply(&reply, code, number, used, 0, label);
     check_host(host, &before, label);
+}
+
+/* Not for CAIF_CUT: the number is 0. */
+static void refused(struct host *host, const struct sizes *sizes, const uint8_t *bytes, size_t count, uint8_t code,
+                    size_t used, const char *label)
+{
+    answered(host, sizes, bytes, count, code, 0, used, label);
+}
+
+static void cut(struct host *host, const uint8_t *bytes, size_t count, uint64_t missing, const char *label)
+{
+    answered(host, &right_sizes, bytes, count, CAIF_CUT, missing, 0, label);
 }
 
 /* The buffer of this size, which is not its own. */
@@ -60,8 +74,6 @@ static void check_records(void)
 {
     static struct host host;
     run_example(&host);
-    refused(&host, &right_sizes, report, 0, CAIF_CUT, 0, "no record");
-    REFUSED(CAIF_CUT, 0, "no kind byte", 0x01);
     REFUSED(CAIF_UNKNOWN_KIND, 0, "no kind", 0x02);
     REFUSED(CAIF_UNKNOWN_KIND, 0, "kind 15", 0x01, 0x0F);
     REFUSED(CAIF_UNKNOWN_KIND, 0, "kind 2, retired", 0x03, 0x02, 0);
@@ -69,10 +81,92 @@ static void check_records(void)
     REFUSED(CAIF_UNKNOWN_KIND, 0, "kind 3, retired", 0x01, 0x03);
     REFUSED(CAIF_WRONG_MAP, 0, "another map", 0x03, 0x0D, 0);
     REFUSED(CAIF_WRONG_MAP, 0, "hand over with another map", 0x01, 0x0E);
-    REFUSED(CAIF_CUT, 0, "hand over cut", 0x03, 0x0E);
+    REFUSED(CAIF_WRONG_MAP, 0, "a cut record with another map", 0x4B, 0x07, 0);
+    REFUSED(CAIF_UNKNOWN_KIND, 0, "a cut record of kind 0", 0x07, 0);
     REFUSED(CAIF_NONE_RUNS, 2, "exit while none runs", 0x01, 0x04, 0xFF);
     REFUSED(CAIF_NO_PLACE, 3, "hand over to 17", 0x03, 0x0E, 17);
     REFUSED(CAIF_PLACE_STATE, 3, "hand over to an empty place", 0x03, 0x0E, 1);
+}
+
+/* A record, and what it misses when it is cut, from no byte of it on. */
+struct cuts {
+    const char *name;
+    uint8_t record[32];
+    size_t length;
+    uint64_t missing[32];
+    size_t count;
+};
+
+#define CUT_RECORD(...) .record = {__VA_ARGS__}, .length = sizeof((uint8_t[]){__VA_ARGS__})
+#define MISSING(...) .missing = {__VA_ARGS__}, .count = sizeof((uint64_t[]){__VA_ARGS__}) / sizeof(uint64_t)
+#define EIGHT 8, 7, 6, 5, 4, 3, 2, 1 /* a field of 8 bytes */
+
+static const struct cuts cuts[] = {
+    {"create", CUT_RECORD(0x07, 0x01, 3, 9, 0xFF, 0xFF, 0xFF, 0xFF, 0xFF, 0xFF, 0xFF), MISSING(1, 1, 1, EIGHT)},
+    {"exit", CUT_RECORD(0x01, 0x04), MISSING(1, 1)},
+    {"heap write", CUT_RECORD(0x4B, 0x05, 0, 0xFF, 0xFF, 2, 0, 0x41, 0x42), MISSING(1, 1, 1, 2, 1, 2, 1, 2, 1)},
+    {"heap read", CUT_RECORD(0x1B, 0x06, 0, 0, 0, 1, 0), MISSING(1, 1, 1, 2, 1, 2, 1)},
+    {"attest", CUT_RECORD(0x19, 0x09, 0, 0, 1, 0), MISSING(1, 1, 2, 1, 2, 1)},
+    {"check",
+     CUT_RECORD(0x65, 0x0A, 1, 0, 0, 0, 0, 0, 0, 0, 0x1F, 0xA2, 0xF5, 0x8F, 0xDC, 0x6D, 0x9A, 0x52, 1, 0, 0x41),
+     MISSING(1, 1, EIGHT, EIGHT, 2, 1, 1)},
+    {"retrieve", CUT_RECORD(0x2D, 0x0C, 1, 0, 0, 0, 0, 0, 0, 0, 0xFF, 0, 7, 0, 0, 0, 0, 0, 1, 0),
+     MISSING(1, 1, EIGHT, 2, 1, EIGHT)},
+    {"hand over", CUT_RECORD(0x03, 0x0E, 0), MISSING(1, 1, 1)},
+};
+
+/* Every field of these cut at every byte, the empty record and the map alone among them. */
+static void check_cut_records(void)
+{
+    static struct host host;
+    run_example(&host);
+    for (size_t n = 0; n < sizeof cuts / sizeof *cuts; n++) {
+        check(cuts[n].count == cuts[n].length, cuts[n].name, "as many as its bytes");
+        for (size_t end = 0; end < cuts[n].length; end++) {
+            char label[64];
+            snprintf(label, sizeof label, "%s cut at %zu", cuts[n].name, end);
+            cut(&host, cuts[n].record, end, cuts[n].missing[end], label);
+        }
+    }
+}
+
+/* The contents of a shared write: count of them, of which so many are there. */
+static void cut_contents(size_t count, size_t there, uint64_t missing, const char *label)
+{
+    static struct host host;
+    static uint8_t record[6 + 65535];
+    memset(record, 0xFF, sizeof record);
+    memcpy(record, (const uint8_t[]){0x49, 0x07, 0, 0, count % 256, count / 256}, 6);
+    run_example(&host);
+    cut(&host, record, 6 + there, missing, label);
+}
+
+static void check_cut_contents(void)
+{
+    cut_contents(1, 0, 1, "none of 1 byte");
+    cut_contents(255, 0, 255, "none of 255 bytes");
+    cut_contents(256, 0, 256, "none of 256 bytes");
+    cut_contents(256, 255, 1, "255 of 256 bytes");
+    cut_contents(257, 1, 256, "1 of 257 bytes");
+    cut_contents(65535, 0, 65535, "none of 65,535 bytes");
+    cut_contents(65535, 255, 65280, "255 of 65,535 bytes");
+    cut_contents(65535, 65534, 1, "65,534 of 65,535 bytes");
+}
+
+/* Two bytes are missing: one leaves one missing, two finish the field, whatever they are. */
+static void check_finished(void)
+{
+    static struct host host;
+    static const uint8_t fillers[] = {0x00, 0x01, 0xFF};
+    run_example(&host);
+    for (size_t n = 0; n < sizeof fillers; n++) {
+        uint8_t byte = fillers[n];
+        const uint8_t record[] = {0x1B, 0x06, 0, byte, byte, byte, byte};
+        cut(&host, record, 3, 2, "an offset");
+        cut(&host, record, 4, 1, "an offset's second byte");
+        cut(&host, record, 5, 2, "a length behind an offset");
+        refused(&host, &right_sizes, record, 7, CAIF_NONE_RUNS, 7, "a heap read while none runs");
+    }
 }
 
 static void not_written(uint8_t kind, size_t bytes_size, size_t out_size, uint8_t code, const char *label)
@@ -104,5 +198,8 @@ void check_refusals(void)
     check_sizes();
     check_damaged();
     check_records();
+    check_cut_records();
+    check_cut_contents();
+    check_finished();
     check_writer();
 }

@@ -24,15 +24,15 @@ use Rattle.state.specs.declared.LogTable.{LogTable}
 use Rattle.state.specs.declared.EscrowTable.{EscrowTable}
 use Rattle.state.specs.declared.Answer.{Answer}
 use Rattle.state.specs.declared.Change.{Change}
-use Rattle.state.specs.Answers.{refusedWith}
 use Rattle.state.specs.Edits.{unchanged, EditsBy}
 use Rattle.state.proofs.Edited.{no-edits}
 use Rattle.soundness.specs.Parts.{tablesOf, Lent}
 use Rattle.calls.specs.Entry.{EntryResult, resultOf, withUsed, resultOn, entryOn, readyOn, soundOn, carriedOn}
 
 -- a refusal that comes before any call
-abbrev pub refusedOn : Tables → (code : ℕ) → (output : List ℕ) → EntryResult
-refusedOn t code output = record { tables = t; answer = refusedWith code; output = output }
+abbrev pub refusedOn : Tables → (code number : ℕ) → (output : List ℕ) → EntryResult
+refusedOn t code number output =
+    record { tables = t; answer = record { code = code; number = number; used = 0; shown = 0 }; output = output }
 
 -- of a record with so many bytes
 abbrev usedIs : ℕ → EntryResult → EntryResult
@@ -68,15 +68,15 @@ pub whole-read : (t : Tables) (bytes output : List ℕ) (r : found.Reading) → 
 unfolding carriedOn soundOn stepOn readingIn onReading step
 whole-read t bytes output r h c used e = rw (← h, e) (settled-used t (callIn bytes c) used output (refusal (stateOf t) (callIn bytes c)))
 
-pub refused-read : {t : Tables} {n : ℕ} → Sound t n → (bytes output : List ℕ) (code : ℕ) → read bytes ≡ refused code 0
-    → refusedOn t code output ≡ soundOn t bytes output
+pub refused-read : {t : Tables} {n : ℕ} → Sound t n → (bytes output : List ℕ) (code number : ℕ) → read bytes ≡ refused code number
+    → refusedOn t code number output ≡ soundOn t bytes output
 unfolding soundOn stepOn onReading resultOn laid refuse refusedAnswer outputAfter
-refused-read {t} {n} s bytes output code h = rw (h, tables-state t n s)
+refused-read {t} {n} s bytes output code number h = rw (h, tables-state t n s)
 
 -- ---- the first test
 
 module _ (t : Tables) (bytes output : List ℕ) where
-  pub refused-entry : readyOn t (length output) ≡ false → refusedOn t 15 output ≡ entryOn t bytes output
+  pub refused-entry : readyOn t (length output) ≡ false → refusedOn t 15 0 output ≡ entryOn t bytes output
   unfolding readyOn entryOn callOn unsound resultOn refusedAnswer outputAfter
   refused-entry h = rw h
 

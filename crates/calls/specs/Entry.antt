@@ -66,6 +66,10 @@ soundOn t bytes output = resultOn (laid (stepOn (stateOf t) bytes)) output
 unfoldable pub carriedOn : Tables → Call → (output : List ℕ) → EntryResult
 carriedOn t c output = resultOn (laid (step (stateOf t) c 0)) output
 
+-- the answer to a cut record: so many bytes finish the field being read
+abbrev pub cutWith : (missing : ℕ) → Answer
+cutWith missing = record { code = 1; number = missing; used = 0; shown = 0 }
+
 -- a call of a record with so many bytes
 abbrev pub withUsed : Change → (used : ℕ) → Change
 withUsed c used =

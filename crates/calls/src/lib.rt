@@ -6,8 +6,8 @@ ghost use mathlib.Core.Path.{_≡_};
 ghost use lib.ListN.{length};
 ghost use Rattle.ideal.specs.Layouts.{Sound};
 ghost use Rattle.soundness.specs.Parts.{tablesOf};
-ghost use Rattle.state.specs.Edits.{EditsBy};
-ghost use Rattle.calls.specs.Entry.{resultOf, withUsed, readyOn, soundOn, entryOn};
+ghost use Rattle.state.specs.Edits.{unchanged, EditsBy};
+ghost use Rattle.calls.specs.Entry.{resultOf, withUsed, cutWith, readyOn, soundOn, entryOn};
 use ideal::BoxRecord;
 use reader::read_call;
 use record::Reading;
@@ -25,6 +25,15 @@ fn with_used(change: Change, used: usize) -> Change
     let mut next = change;
     next.answer.used = used;
     next
+}
+
+// The refusal of a cut record.
+fn refuse_cut(held: BoxRecord, missing: usize) -> Change
+    ensures { λ r. ⌜ r ≡ unchanged held (cutWith missing) ⌝ }
+{
+    let mut change = refuse(held, 1);
+    change.answer.number = missing as u64;
+    change
 }
 
 // Whether the lent buffers are of their sizes and the box is sound.
@@ -87,7 +96,7 @@ pub fn call_sound(
             );
             with_used(change, used)
         }
-        Reading::Cut => refuse(held, 1),
+        Reading::Cut { missing } => refuse_cut(held, missing),
         Reading::UnknownKind => refuse(held, 2),
         Reading::WrongMap => refuse(held, 3),
     }

@@ -17,7 +17,7 @@ use Rattle.ideal.specs.State.{Entry, Escrowed, State, caller, any, find}
 use Rattle.ideal.specs.Step.{isPair, paired, full, isEscrowed, found, absent, valueIn, firstHolding, idle, vacant, beyond, tests, refusal}
 use Rattle.ideal.specs.Tables.{RowsOf, logTable, escrowTable, rowsFrom, entryOf, entriesOf, boxRecord, tables, usedLog, usedEscrow, stateOf}
 use Rattle.ideal.specs.Valid.{Valid}
-use Rattle.ideal.specs.Refusals.{callerIn, ownBytes, oneOf, isRow, holdsPair, isMissing, lengthIn, callConditions}
+use Rattle.ideal.specs.Refusals.{callerIn, ownBytes, oneOf, isRow, holdsPair, isAbsent, lengthIn, callConditions}
 use Rattle.lists.proofs.Bools.{by-cases, or-nil}
 use Rattle.ideal.proofs.Table.{escrow-lawful, used-rows}
 use Rattle.ideal.proofs.Conditions.{firstOf}
@@ -60,7 +60,7 @@ module _ (s : State) (back : stateOf (tables s) ≡ s) (valid : Valid s) where
 
   -- a call's refusal is the first of its conditions that holds
   pub call-first : (c : Call) → refusal s c ≡ firstOf (callConditions (tables s) c)
-  unfolding refusal tests firstHolding firstOf callConditions filled oneOf any idle vacant beyond full tables boxRecord isMissing absent lengthIn valueIn
+  unfolding refusal tests firstHolding firstOf callConditions filled oneOf any idle vacant beyond full tables boxRecord isAbsent absent lengthIn valueIn
   call-first (create p i) = rw (taken-at (s .identities) p, or-nil (ltb 15 p), or-nil (not (eqb (getD (s .identities) p 0) 0)))
   call-first exit = refl
   call-first (heapWrite p o w) = rw (zero-add (length w), or-nil (ltb 15 p), or-nil (ltb 256 (o + length w)))
@@ -82,6 +82,6 @@ module _ (s : State) (back : stateOf (tables s) ≡ s) (valid : Valid s) where
   call-first (check i g w) = refl
   call-first (protect i o n d) = rw (add-zero n, or-nil (ltb 256 (o + n)))
   call-first (retrieve i o h) =
-      rw (found-row isMissing absent refl (λ e at. refl) i h, found-row lengthIn (λ x. length (valueIn x)) refl (λ e at. refl) i h)
+      rw (found-row isAbsent absent refl (λ e at. refl) i h, found-row lengthIn (λ x. length (valueIn x)) refl (λ e at. refl) i h)
   call-first report = refl
   call-first (handOver p) = rw (taken-at (s .identities) p, Bool·not-not (eqb (getD (s .identities) p 0) 0))

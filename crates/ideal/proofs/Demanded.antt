@@ -3,6 +3,7 @@
 use Rattle.ideal.specs.Box.{callOn}
 use Rattle.ideal.specs.Demands.{Demands}
 use Rattle.ideal.proofs.Numbers.{each-number, refusals-alter-nothing, never-five}
+use Rattle.ideal.proofs.MissingBytes.{number-only-with-one, missing-is-exact}
 use Rattle.ideal.proofs.Accepts.{accepted-answers}
 use Rattle.ideal.proofs.Histories.{history-holds, reports}
 use Rattle.ideal.proofs.Accurate.{check-is-accurate, long-check-is-no, retrieve-is-accurate, handle-once}
@@ -12,7 +13,14 @@ use Rattle.ideal.proofs.FirstFree.{handle-is-first-free}
 pub demands : Demands callOn
 demands =
     record {
-      one = record { numbers = each-number; alters-nothing = refusals-alter-nothing; never-five = never-five };
+      one =
+          record {
+            numbers = each-number;
+            alters-nothing = refusals-alter-nothing;
+            never-five = never-five;
+            number-only-with-one = number-only-with-one;
+            missing-is-exact = missing-is-exact;
+          };
       two =
           record {
             refuses-no-more = each-number;

@@ -10,6 +10,7 @@ use Rattle.ideal.specs.Step.{number, shown}
 use Rattle.ideal.specs.Tables.{Tables, tables}
 use Rattle.ideal.specs.Box.{Element, Result, callOn}
 use Rattle.ideal.specs.Answers.{plainNumber, Answered}
+use Rattle.ideal.specs.Refusals.{numberAt}
 use Rattle.ideal.specs.OneCall.{leaves, countedNumber, shows, Done, OneCall, OneCallFixed}
 use Rattle.lists.proofs.Bools.{by-cases}
 use Rattle.ideal.proofs.Numbers.{each-number, refusals-alter-nothing}
@@ -34,7 +35,7 @@ module _ (box : Tables → Element → Result) (one : OneCall box) (t : Tables) 
       let b = refusals-alter-nothing t e n in
       let u = rw code-is at (a .used) in
       same-result _ _ (a .tables ∙ sym (b .tables))
-      (same-answer _ _ code-is (a .number ∙ sym (b .number)) (same-used (e .bytes) _ _ _ u (b .used)) (a .shown ∙ sym (b .shown)))
+      (same-answer _ _ code-is (a .number ∙ ap (numberAt (e .bytes)) code-is ∙ sym (b .number)) (same-used (e .bytes) _ _ _ u (b .used)) (a .shown ∙ sym (b .shown)))
 
   module _ (c : Call) (used : ℕ) (reads : read (e .bytes) ≡ whole c used) (z : s .answer .code ≡ 0) where
     answered-r : Answered t c used (r .answer)

@@ -21,7 +21,7 @@ use Rattle.ideal.specs.State.{Move, any}
 use Rattle.ideal.specs.Step.{Answer, logged, number}
 use Rattle.ideal.specs.Tables.{Tables, freshTables}
 use Rattle.ideal.specs.Box.{Element, Result, callOn, elementAt, tablesFrom, answersFrom, tablesAfter, tablesBefore, answerAt}
-use Rattle.ideal.specs.Refusals.{callerIn, ownBytes, oneOf}
+use Rattle.ideal.specs.Refusals.{callerIn, ownBytes, oneOf, numberAt}
 use Rattle.ideal.specs.Answers.{plainNumber, Answered}
 use Rattle.ideal.specs.History.{moveSeen, added, pastFrom, pastOf, Shows}
 use Rattle.ideal.specs.Accuracy.{Earlier, LogsAt, ProtectsAt, ProtectedBefore, HandsOut}
@@ -416,7 +416,7 @@ module _ (box : Box) (one : Demand1 box) (two : Demand2 box) (es : List Element)
       let r = one .alters-nothing (tablesBefore box es k) e (λ y. n (sym (h .code) ∙ y)) in
       let s = demands .one .alters-nothing (tablesBefore callOn es k) e n in
       let u = rw (h .code) at (r .used) in
-      same-answer _ _ (h .code) (r .number ∙ sym (s .number)) (same-used (e .bytes) _ _ _ u (s .used)) (r .shown ∙ sym (s .shown)))
+      same-answer _ _ (h .code) (r .number ∙ ap (numberAt (e .bytes)) (h .code) ∙ sym (s .number)) (same-used (e .bytes) _ _ _ u (s .used)) (r .shown ∙ sym (s .shown)))
 
   answers-to : (k : ℕ) → k ≤ length es → answersFrom box freshTables (take k es) ≡ answersFrom callOn freshTables (take k es)
   answers-to zero b = unfold answersFrom in refl

@@ -3,6 +3,7 @@ pub mod Unique
 pub mod Chain
 pub mod Conditions
 pub mod ReaderNumbers
+pub mod MissingBytes
 pub mod Free
 pub mod Table
 pub mod Heaps

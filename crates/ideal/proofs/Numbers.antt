@@ -2,9 +2,9 @@
 use Prim.Native.Nat.{ℕ, zero, suc}
 use mathlib.Core.Path.{_≡_, refl, sym, ap, _∙_}
 use mathlib.Core.Bool.{Bool, true, false, not, _&&_}
-use mathlib.Core.List.{List, [], _∷_, _++_}
+use mathlib.Core.List.{List, [], _∷_, _++_, append-nil}
 use lib.Dec.{eqb}
-use borrow.Author.Tests.{eqb-false, not-true}
+use borrow.Author.Tests.{eqb-false, ne-eqb, not-true}
 use Rattle.record.specs.Call.{Call}
 use Rattle.record.specs.Read.{Reading, refused, whole, read}
 use Rattle.ideal.specs.State.{State, any, every}
@@ -13,11 +13,11 @@ use Rattle.ideal.specs.Tables.{Tables, tables, stateOf}
 use Rattle.ideal.specs.Soundness.{sizesRight, sound}
 use Rattle.ideal.specs.Box.{Element, laid, unsound, callOn, outputAfter}
 use Rattle.ideal.specs.Layouts.{Sound}
-use Rattle.ideal.specs.Refusals.{oneOf, readerConditions, callConditions, onCall, conditions, unread, was-read, Refused, EachNumber, RefusalsAlterNothing, NeverFive}
-use Rattle.lists.proofs.Bools.{by-cases, and-left, and-right}
+use Rattle.ideal.specs.Refusals.{oneOf, readerConditions, callConditions, onCall, conditions, unread, was-read, numberAt, Refused, EachNumber, RefusalsAlterNothing, NeverFive}
+use Rattle.lists.proofs.Bools.{by-cases, and-left, and-right, or-false-left}
 use Rattle.ideal.proofs.Laid.{valid-sound, state-tables, tables-state}
 use Rattle.ideal.proofs.Conditions.{firstOf, first-of, first-among}
-use Rattle.ideal.proofs.ReaderNumbers.{seen, read-seen}
+use Rattle.ideal.proofs.ReaderNumbers.{seen, numbered, read-seen}
 use Rattle.ideal.proofs.CallNumbers.{call-first}
 
 -- at these no bytes count as used
@@ -47,14 +47,14 @@ module _ (t : Tables) (n : ℕ) (h : Sound t n) where
       let k = first-among (λ m. not (oneOf readNumbers m)) (callConditions t c) [] refl refl in
       ap (oneOf readNumbers) (refusal-first c) ∙ not-true _ k
 
-  reading-code : (r : Reading) → onReading (stateOf t) r .answer .code ≡ seen r (firstOf (onCall t r)) .0
+  reading-code : (bs : List ℕ) (r : Reading) → onReading (stateOf t) r .answer .code ≡ seen r (numbered bs (firstOf (onCall t r))) .0
   unfolding onReading refuse refusedAnswer step seen onCall
-  reading-code (refused code number) = refl
-  reading-code (whole c used) = settle-code (refusal (stateOf t) c) (stateOf t) c used ∙ refusal-first c
+  reading-code bs (refused code number) = refl
+  reading-code bs (whole c used) = settle-code (refusal (stateOf t) c) (stateOf t) c used ∙ refusal-first c
 
   step-code : (bs : List ℕ) → stepOn (stateOf t) bs .answer .code ≡ firstOf (readerConditions bs ++ onCall t (read bs))
   unfolding stepOn
-  step-code bs = reading-code (read bs) ∙ ap (λ x. x .0) (read-seen bs (onCall t (read bs)))
+  step-code bs = reading-code bs (read bs) ∙ ap (λ x. x .0) (read-seen bs (onCall t (read bs)))
 
 call-code : (t : Tables) (e : Element) → callOn t e .answer .code ≡ firstOf (conditions t e)
 unfolding callOn laid unsound refusedAnswer conditions firstOf
@@ -71,37 +71,44 @@ each-number t e n = rw (call-code t e) (first-of n (conditions t e))
 notFive : ℕ → Bool
 notFive m = not (eqb m 5)
 
-call-not-five : (t : Tables) (r : Reading) → notFive (firstOf (onCall t r)) ≡ true
-unfolding notFive onCall every callConditions firstOf
-call-not-five t (refused code number) = refl
-call-not-five t (whole c used) = first-among notFive (callConditions t c) [] refl refl
+-- what holds of 0 and of each number of a call's conditions holds of the first
+pub call-passes : (t : Tables) (p : ℕ → Bool) → p 0 ≡ true → ((c : Call) → every (λ x. p (x .0)) (callConditions t c) ≡ true)
+    → (r : Reading) → p (firstOf (onCall t r)) ≡ true
+unfolding onCall firstOf
+call-passes t p z h (refused code number) = z
+call-passes t p z h (whole c used) = rw append-nil at (first-among p (callConditions t c) [] (h c) z)
 
 pub never-five : NeverFive callOn
-unfolding notFive every conditions readerConditions
+unfolding notFive every conditions readerConditions callConditions
 never-five t e h =
     let bs = e .bytes in
     let reader : List (ℕ × Bool) = (15, not (sizesRight t (e .outputSize) && sound t)) ∷ readerConditions bs in
-    let k = first-among notFive reader (onCall t (read bs)) refl (call-not-five t (read bs)) in
+    let k = first-among notFive reader (onCall t (read bs)) refl (call-passes t notFive refl (λ c. refl) (read bs)) in
     eqb-false _ 5 (not-true _ k) (sym (call-code t e) ∙ h)
 
 -- ---- what a refusal leaves
 
--- the reader refuses with 1, 2 or 3, and its answer number is 0
+-- the reader refuses with 1, 2 or 3, and with the answer number of that
 pub read-refused : (bs : List ℕ) (code number : ℕ) → read bs ≡ refused code number
-    → (number ≡ 0) × (oneOf readNumbers code ≡ true)
+    → (number ≡ numberAt bs code) × (oneOf readNumbers code ≡ true)
 unfolding seen every readerConditions firstOf oneOf any
 read-refused bs code number e =
     let some : List (ℕ × Bool) = (1, true) ∷ [] in
     let h = rw e at (read-seen bs some) in
-    (ap (λ x. x .1) h, ap (λ x. oneOf readNumbers (x .0)) h ∙ first-among (oneOf readNumbers) (readerConditions bs) some refl refl)
+    let first = ap (λ x. x .0) h in (
+      ap (λ x. x .1) h ∙ ap (numberAt bs) (sym first),
+      ap (oneOf readNumbers) first ∙ first-among (oneOf readNumbers) (readerConditions bs) some refl refl,
+    )
 
 module _ (t : Tables) (e : Element) (h : Sound t (e .outputSize)) where
   settle-refused : (c : Call) (used n : ℕ) → read (e .bytes) ≡ whole c used → oneOf readNumbers n ≡ false
       → (settle n (stateOf t) c used .answer .code ≡ 0 → ⊥) → Refused t e (laid (settle n (stateOf t) c used))
-  unfolding settle accepted laid refuse refusedAnswer outputAfter
+  unfolding settle accepted laid refuse refusedAnswer outputAfter numberAt oneOf any
   settle-refused c used zero r k f = absurd (f refl)
   settle-refused c used (suc n) r k f =
-      record { tables = tables-state t _ h; number = refl; shown = refl; used = was-read k c r; output = λ out. refl }
+      let other = eqb-false 1 (suc n) (or-false-left (eqb 1 (suc n)) _ k) in
+      let none = ne-eqb (suc n) 1 (λ y. other (sym y)) in
+      record { tables = tables-state t _ h; number = rw none; shown = refl; used = was-read k c r; output = λ out. refl }
 
   reading-refused : (r : Reading) → read (e .bytes) ≡ r → (onReading (stateOf t) r .answer .code ≡ 0 → ⊥)
       → Refused t e (laid (onReading (stateOf t) r))
@@ -112,7 +119,7 @@ module _ (t : Tables) (e : Element) (h : Sound t (e .outputSize)) where
   reading-refused (whole c used) r f = settle-refused c used (refusal (stateOf t) c) r (call-number t _ h c) f
 
 pub refusals-alter-nothing : RefusalsAlterNothing callOn
-unfolding callOn laid unsound refusedAnswer outputAfter oneOf any stepOn
+unfolding callOn laid unsound refusedAnswer outputAfter numberAt oneOf any stepOn
 refusals-alter-nothing t e =
     by-cases (sizesRight t (e .outputSize) && sound t)
     (λ h. rw h (reading-refused t e (sound-of t _ h) (read (e .bytes)) refl))

@@ -1,11 +1,11 @@
--- The reader refuses by the first of its conditions. Assumes nothing.
-use Prim.Native.Nat.{ℕ, zero, suc, _+_, _≤_, _<_}
-use mathlib.Core.Path.{_≡_, refl, sym}
+-- The reader refuses by the first of its conditions, and with 1 tells the bytes that are missing. Assumes nothing.
+use Prim.Native.Nat.{ℕ, zero, suc, _+_, _-_, _≤_, _<_}
+use mathlib.Core.Path.{_≡_, refl, _∙_}
 use mathlib.Core.Bool.{Bool, true, false, not, _&&_, _||_, cond, Bool·beq, false≢true}
 use mathlib.Core.List.{List, [], _∷_, _++_}
 use mathlib.Core.Option.{Option, none, some}
 use native.Mathlib.Omega.{arith}
-use lib.ListN.{length, drop, length-drop}
+use lib.ListN.{length, drop, getD, length-drop}
 use lib.Seq.{drop-drop}
 use lib.Dec.{eqb, ltb, leb, eqb·suc-zero, eqb·suc-suc}
 use borrow.Author.Tests.{ltb-true, ltb-false, lt-ltb, le-ltb, eqb-true, eqb-false, leb-true, ne-eqb}
@@ -13,52 +13,81 @@ use Rattle.record.specs.declared.Fields.{Fields}
 use Rattle.record.specs.Layout.{Kind, stands, kinds, among, kindOf, mapIn, mapOf}
 use Rattle.record.specs.Read.{Reading, refused, whole, cut, unknown, wrongMap, fromLittle, field, contents, bytesField, fields, readFields, readKind, afterMap, read}
 use Rattle.ideal.specs.State.{part, any, every}
-use Rattle.ideal.specs.Refusals.{oneOf, width, fixedBytes, cutField, isMap, readerConditions}
+use Rattle.ideal.specs.Refusals.{oneOf, width, ends, cutField, passed, wholeFields, missing, numberAt, isMap, readerConditions}
 use Rattle.lists.proofs.Bools.{by-cases, and-left, and-right}
 use Rattle.ideal.proofs.Conditions.{firstOf}
 
 -- the code and the number of a refusal; those given where the record is whole
-unfoldable pub seen : Reading → ℕ → ℕ × ℕ
-seen (refused code number) m = (code, number)
-seen (whole c used) m = (m, 0)
+unfoldable pub seen : Reading → ℕ × ℕ → ℕ × ℕ
+seen (refused code number) p = (code, number)
+seen (whole c used) p = p
+
+-- a code, and the answer number of a refusal with it
+abbrev pub numbered : List ℕ → ℕ → ℕ × ℕ
+numbered bs code = (code, numberAt bs code)
 
 -- ---- the fields
 
--- r is what is given: refusal 1 where the bytes end before the fields do, at `end`
-module _ (all : List ℕ) (m end : ℕ) (r : ℕ × ℕ) (over : length all < end → r ≡ (1, 0)) where
-  -- a field that begins at `at`
-  field-seen : (here : Bool) (n at : ℕ) (next : ℕ → List ℕ → Reading) → at ≤ length all → at + width here n ≤ end
-      → ((v : ℕ) → at + width here n ≤ length all → seen (next v (drop (at + width here n) all)) m ≡ r)
-      → seen (field here n next (drop at all)) m ≡ r
-  unfolding field width seen cut
-  field-seen false n at next l e k = let z : at + 0 ≡ at = omega arith in rw z at (k 0 (omega arith))
-  field-seen true n at next l e k =
-      by-cases (ltb (length (drop at all)) n)
-      (λ c. rw c (sym (over (omega (arith, ltb-true, length-drop at all)))))
-      (λ c. rw (c, drop-drop n at all) (k _ (omega (arith, ltb-false, length-drop at all))))
+-- from n to the first of the ends beyond it; 0 where none is
+unfoldable pub upTo : ℕ → List ℕ → ℕ
+upTo n [] = 0
+upTo n (end ∷ later) = cond (ltb n end) (end - n) (upTo n later)
 
--- the count and the bytes, where bit 6 stands
-bytes-seen : (all : List ℕ) (m at : ℕ) (here : Bool) (next : List ℕ → List ℕ → Reading) → at ≤ length all
-    → ((v bs : List ℕ) → seen (next v bs) m ≡ (m, 0))
-    → seen (bytesField here next (drop at all)) m
-    ≡ (
-      cond (ltb (length all) at
-          || (here && (ltb (length all) (at + 2) || ltb (length all) (at + 2 + fromLittle (part all at 2))))) 1 m,
-      0,
-    )
-unfolding bytesField field contents seen cut
-bytes-seen all m at false next l k = rw (le-ltb (length all) at l, le-ltb (length (drop at all)) 0 (omega arith)) (k _ _)
-bytes-seen all m at true next l k =
-    let size = fromLittle (part all at 2) in
-    by-cases (ltb (length (drop at all)) 2)
-    (λ c. rw (c, le-ltb (length all) at l, lt-ltb (length all) (at + 2) (omega (arith, ltb-true, length-drop at all))))
-    (λ c.
-    let d = length-drop at all in
-    let g : at + 2 ≤ length all = omega (arith, ltb-false) in
-    rw (c, le-ltb (length all) at l, le-ltb (length all) (at + 2) g)
-    (by-cases (ltb (length (drop 2 (drop at all))) size)
-    (λ b. rw (b, lt-ltb (length all) (at + 2 + size) (omega (arith, ltb-true, length-drop 2 (drop at all)))))
-    (λ b. rw (b, le-ltb (length all) (at + 2 + size) (omega (arith, ltb-false, length-drop 2 (drop at all)))) (k _ _))))
+up-to : (n : ℕ) (es : List ℕ) → getD es (passed n es) 0 - n ≡ upTo n es
+unfolding passed upTo
+up-to n [] = omega arith
+up-to n (end ∷ later) = by-cases (ltb n end) (λ h. rw h) (λ h. rw h (up-to n later))
+
+pub missing-is : (bs : List ℕ) → missing bs ≡ upTo (length bs) (ends bs)
+unfolding missing wholeFields
+missing-is bs = up-to (length bs) (ends bs)
+
+-- 1 and the bytes up to the first end beyond n; what is given where none is
+unfoldable scan : ℕ → List ℕ → ℕ × ℕ → ℕ × ℕ
+scan n [] p = p
+scan n (end ∷ later) p = cond (ltb n end) (1, end - n) (scan n later p)
+
+scan-is : (n : ℕ) (es : List ℕ) (p : ℕ × ℕ)
+    → let cut = any (λ end. ltb n end) es in scan n es p ≡ cond cut (1, upTo n es) p
+unfolding scan any upTo
+scan-is n [] p = refl
+scan-is n (end ∷ later) p =
+    by-cases (ltb n end) (λ h. rw h) (λ h. rw h (scan-is n later p))
+
+scan-end : (n : ℕ) (p : ℕ × ℕ) → p ≡ scan n [] p
+unfolding scan
+scan-end n p = refl
+
+scan-past : (n end : ℕ) (later : List ℕ) (p : ℕ × ℕ) → end ≤ n → scan n (end ∷ later) p ≡ scan n later p
+unfolding scan
+scan-past n end later p l = rw (le-ltb n end l)
+
+module _ (all : List ℕ) (p : ℕ × ℕ) where
+  -- n bytes from `at` on
+  contents-seen : (n at : ℕ) (next : List ℕ → List ℕ → Reading) (later : List ℕ) → at ≤ length all
+      → (at + n ≤ length all → seen (next (part all at n) (drop (at + n) all)) p ≡ scan (length all) later p)
+      → seen (contents n next (drop at all)) p ≡ scan (length all) ((at + n) ∷ later) p
+  unfolding contents seen cut scan
+  contents-seen n at next later l k =
+      let d = length-drop at all in
+      by-cases (ltb (length (drop at all)) n)
+      (λ c.
+      let m : n - length (drop at all) ≡ at + n - length all = omega arith in
+      rw (c, m, lt-ltb (length all) (at + n) (omega (arith, ltb-true))))
+      (λ c.
+      let g : at + n ≤ length all = omega (arith, ltb-false) in
+      rw (c, drop-drop n at all, le-ltb (length all) (at + n) g) (k g))
+
+  -- a field that begins at `at`
+  field-seen : (here : Bool) (n at : ℕ) (next : ℕ → List ℕ → Reading) (later : List ℕ) → at ≤ length all
+      → (at + width here n ≤ length all
+      → seen (next (width here (fromLittle (part all at n))) (drop (at + width here n) all)) p ≡ scan (length all) later p)
+      → seen (field here n next (drop at all)) p ≡ scan (length all) ((at + width here n) ∷ later) p
+  unfolding field width
+  field-seen false n at next later l k =
+      let z : at + 0 ≡ at = omega arith in
+      rw (z, scan-past (length all) at later p l) (rw z at (k (omega arith)))
+  field-seen true n at next later l k = contents-seen n at (λ v. next (fromLittle v)) later l k
 
 -- ---- a record of a kind
 
@@ -70,37 +99,45 @@ unlisted : Option Kind → Bool
 unlisted none = true
 unlisted (some k) = false
 
-module _ (map n : ℕ) (rest : List ℕ) (m : ℕ) where
-  -- cut before its end, or whole
-  fields-seen : (next : Fields → List ℕ → List ℕ → Reading) → ((f : Fields) (v bs : List ℕ) → seen (next f v bs) m ≡ (m, 0))
-      → seen (fields map next rest) m ≡ (cond (cutField map (map ∷ n ∷ rest)) 1 m, 0)
-  unfolding fields fixedBytes cutField
-  fields-seen next k =
-      let all : List ℕ = map ∷ n ∷ rest in
-      let one = 2 + width (stands map 1) 1 in
-      let two = one + width (stands map 2) 8 in
-      let three = two + width (stands map 3) 2 in
-      let four = three + width (stands map 4) 2 in
-      let end = four + width (stands map 5) 8 in
-      let r : ℕ × ℕ = (cond (cutField map all) 1 m, 0) in
-      let over : length all < end → r ≡ (1, 0) = λ h. rw (lt-ltb (length all) end h) in
-      let go = field-seen all m end r over in
-      go (stands map 1) 1 2 _ (omega arith) (omega arith) λ p l.
-      go (stands map 2) 8 one _ l (omega arith) λ i l.
-      go (stands map 3) 2 two _ l (omega arith) λ o l.
-      go (stands map 4) 2 three _ l (omega arith) λ z l.
-      go (stands map 5) 8 four _ l (omega arith) λ x l.
-      bytes-seen all m end (stands map 6) _ l (k _)
+module _ (map n : ℕ) (rest : List ℕ) where
+  abbrev all : List ℕ
+  all = map ∷ n ∷ rest
 
-  kind-seen : (total : ℕ) (o : Option Kind) → unlisted o ≡ noKind n
-      → seen (readKind total map o rest) m
-      ≡ (cond (noKind n) 2 (cond (not (isMap map (mapIn o))) 3 (cond (cutField map (map ∷ n ∷ rest)) 1 m)), 0)
-  unfolding readKind readFields unlisted mapIn isMap seen unknown wrongMap
-  kind-seen total none e = rw (← e)
-  kind-seen total (some k) e =
+  -- cut before its end, or whole
+  fields-seen : (p : ℕ × ℕ) (next : Fields → List ℕ → List ℕ → Reading) → ((f : Fields) (v bs : List ℕ) → seen (next f v bs) p ≡ p)
+      → seen (fields map next rest) p ≡ scan (length all) (ends all) p
+  unfolding fields bytesField ends
+  fields-seen p next k =
+      let place = 2 + width (stands map 1) 1 in
+      let identity = place + width (stands map 2) 8 in
+      let offset = identity + width (stands map 3) 2 in
+      let size = offset + width (stands map 4) 2 in
+      let number = size + width (stands map 5) 8 in
+      let count = number + width (stands map 6) 2 in
+      let go = field-seen all p in
+      rw (scan-past (length all) 1 _ p (omega arith), scan-past (length all) 2 _ p (omega arith))
+      (go (stands map 1) 1 2 _ _ (omega arith) λ l.
+      go (stands map 2) 8 place _ _ l λ l.
+      go (stands map 3) 2 identity _ _ l λ l.
+      go (stands map 4) 2 offset _ _ l λ l.
+      go (stands map 5) 8 size _ _ l λ l.
+      go (stands map 6) 2 number _ _ l λ l.
+      contents-seen all p _ count _ [] l (λ _. k _ _ _ ∙ scan-end (length all) p))
+
+  kind-seen : (m total : ℕ) (o : Option Kind) → unlisted o ≡ noKind n
+      → seen (readKind total map o rest) (numbered all m)
+      ≡ numbered all (cond (noKind n) 2 (cond (not (isMap map (mapIn o))) 3 (cond (cutField all) 1 m)))
+  unfolding readKind readFields unlisted mapIn isMap seen unknown wrongMap numberAt cutField
+  kind-seen m total none e = rw (← e)
+  kind-seen m total (some k) e =
       by-cases (eqb (k .map) map)
-      (λ h. rw (← e, h, eqb-true (k .map) map h) (fields-seen _ (λ f v bs. refl)))
+      (λ h. rw (← e, h, eqb-true (k .map) map h)
+      (fields-seen _ _ (λ f v bs. refl) ∙ scan-is (length all) (ends all) _ ∙ rw (← missing-is all) (either (cutField all))))
       (λ h. rw (← e, h))
+    where
+      either : (b : Bool) → cond b (1, missing all) (numbered all m) ≡ numbered all (cond b 1 m)
+      either true = refl
+      either false = refl
 
 -- ---- the kinds' numbers
 
@@ -140,9 +177,10 @@ kinds-listed n =
 
 -- ---- the reader
 
--- the refusal is the first of the reader's conditions that holds, with number 0; where none holds the record is whole
-pub read-seen : (bs : List ℕ) (cs : List (ℕ × Bool)) → seen (read bs) (firstOf cs) ≡ (firstOf (readerConditions bs ++ cs), 0)
-unfolding read afterMap readerConditions firstOf seen cut unknown mapOf
+-- the refusal is the first of the reader's conditions that holds, with its number; where none holds the record is whole
+pub read-seen : (bs : List ℕ) (cs : List (ℕ × Bool))
+    → seen (read bs) (numbered bs (firstOf cs)) ≡ numbered bs (firstOf (readerConditions bs ++ cs))
+unfolding read afterMap readerConditions firstOf seen cut unknown mapOf numberAt missing wholeFields passed ends
 read-seen [] cs = refl
 read-seen (map ∷ []) cs = by-cases (stands map 0) (λ h. rw h) (λ h. rw h)
 read-seen (map ∷ n ∷ rest) cs =

@@ -1,7 +1,7 @@
 -- The three demands, each of a box on a host's tables.
 use Rattle.ideal.specs.Tables.{Tables}
 use Rattle.ideal.specs.Box.{Element, Result}
-use Rattle.ideal.specs.Refusals.{EachNumber, RefusalsAlterNothing, NeverFive}
+use Rattle.ideal.specs.Refusals.{EachNumber, RefusalsAlterNothing, NeverFive, NumberOnlyWithOne, MissingIsExact}
 use Rattle.ideal.specs.Answers.{AcceptedAnswers}
 use Rattle.ideal.specs.History.{HistoryHolds, Reports}
 use Rattle.ideal.specs.Accuracy.{CheckIsAccurate, LongCheckIsNo, RetrieveIsAccurate, HandleOnce, HandleIsFirstFree}
@@ -13,6 +13,8 @@ module _ (box : Tables → Element → Result) where
     pub numbers : EachNumber box
     pub alters-nothing : RefusalsAlterNothing box
     pub never-five : NeverFive box
+    pub number-only-with-one : NumberOnlyWithOne box
+    pub missing-is-exact : MissingIsExact box
 
   -- the box does what the ideal functionality says: it refuses nothing else, and what it holds and answers is what the
   -- calls since a fresh box say

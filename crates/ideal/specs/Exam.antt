@@ -1,4 +1,5 @@
--- Document 01's exam cases A to J and request P1's in one list of records, every kind among them, with the whole answers.
+-- Document 01's exam cases A to J and those of requests P1 and P2 in one list of records, every kind among them, with the
+-- whole answers.
 use Prim.Native.Nat.{ℕ, zero, suc, _/_, _%_, _^_}
 use mathlib.Core.Path.{_≡_}
 use mathlib.Core.List.{List, [], _∷_, map}
@@ -26,10 +27,40 @@ bytes gives answer = record { element = record { bytes = bytes; outputSize = 102
 
 unfoldable pub questions : List Question
 questions =
+    -- an empty record: the map is missing
+    [] gives says 1 1 0 []
     -- J: no kind byte
-    hex 1 0x01 gives says 1 0 0 []
+    ∷ hex 1 0x01 gives says 1 1 0 []
     -- J: bit 0 is down
     ∷ hex 1 0x02 gives says 2 0 0 []
+    -- cut before the place
+    ∷ hex 2 0x07_01 gives says 1 1 0 []
+    -- after a place that is too high, and before the identity
+    ∷ hex 3 0x07_01_10 gives says 1 8 0 []
+    -- in the identity
+    ∷ hex 6 0x07_01_10_080706 gives says 1 5 0 []
+    -- in the offset
+    ∷ hex 4 0x4B_05_00_00 gives says 1 1 0 []
+    -- before the length
+    ∷ hex 4 0x19_08_FA03 gives says 1 2 0 []
+    -- before the offset
+    ∷ hex 2 0x49_07 gives says 1 2 0 []
+    -- before the number
+    ∷ hex 14 0x3D_0B_1817161514131211_0000_0500 gives says 1 8 0 []
+    -- in the number
+    ∷ hex 21 0x3D_0B_1817161514131211_0000_0500_07000000000000 gives says 1 1 0 []
+    -- before the count
+    ∷ hex 5 0x4B_05_00_0000 gives says 1 2 0 []
+    -- in the count
+    ∷ hex 6 0x4B_05_00_0000_05 gives says 1 1 0 []
+    -- in the contents
+    ∷ hex 9 0x4B_05_00_0000_0500_7661 gives says 1 3 0 []
+    -- before contents of the highest count
+    ∷ hex 20 0x65_0A_0807060504030201_BA0E7BEC312B1C54_FFFF gives says 1 65535 0 []
+    -- another map, with a field cut
+    ∷ hex 2 0x47_01 gives says 3 0 0 []
+    -- no such kind, with a field cut
+    ∷ hex 2 0x07_00 gives says 2 0 0 []
     -- create: place 0 for 0x0102030405060708
     ∷ hex 11 0x07_01_00_0807060504030201 gives says 0 0 11 []
     -- again: the place is taken

@@ -1,6 +1,6 @@
 -- Demand 1: which number is given when, said a second time, by number as document 01 lists them and on the host's
--- tables; and what a refused call leaves.
-use Prim.Native.Nat.{ℕ, _+_, _*_, _^_}
+-- tables; what a refused call leaves; and how many bytes a cut record misses (document 02, P2).
+use Prim.Native.Nat.{ℕ, suc, _+_, _*_, _-_, _<_, _^_}
 use mathlib.Core.Path.{_≡_}
 use mathlib.Core.Logic.{_↔_}
 use mathlib.Core.Bool.{Bool, true, false, not, _&&_, _||_, cond}
@@ -33,22 +33,40 @@ oneOf ns n = any (λ m. eqb m n) ns
 
 -- ---- whoever writes the record
 
+-- the bytes of a field; none where its bit is down
 unfoldable pub width : Bool → ℕ → ℕ
 width here n = cond here n 0
 
--- the bytes before the bytes field: map, kind and the fields of bits 1 to 5
-unfoldable pub fixedBytes : ℕ → ℕ
-fixedBytes map =
-    2 + width (stands map 1) 1 + width (stands map 2) 8 + width (stands map 3) 2 + width (stands map 4) 2
-    + width (stands map 5) 8
+-- where each field of a record ends: map, kind, those of bits 1 to 5, the count and the contents of the bytes field. One
+-- whose bit is down ends where the field before it does
+unfoldable pub ends : List ℕ → List ℕ
+ends bs =
+    let map = getD bs 0 0 in
+    let place = 2 + width (stands map 1) 1 in
+    let identity = place + width (stands map 2) 8 in
+    let offset = identity + width (stands map 3) 2 in
+    let size = offset + width (stands map 4) 2 in
+    let number = size + width (stands map 5) 8 in
+    let count = number + width (stands map 6) 2 in
+    let contents = count + width (stands map 6) (fromLittle (part bs number 2)) in
+    1 ∷ 2 ∷ place ∷ identity ∷ offset ∷ size ∷ number ∷ count ∷ contents ∷ []
 
--- the record ends before a field does: a fixed field, the count, or as many bytes as it says
-unfoldable pub cutField : ℕ → List ℕ → Bool
-cutField map bs =
-    let at = fixedBytes map in
-    ltb (length bs) at
-    || (stands map 6
-    && (ltb (length bs) (at + 2) || ltb (length bs) (at + 2 + fromLittle (part bs at 2))))
+-- the record ends before a field does
+unfoldable pub cutField : List ℕ → Bool
+cutField bs = any (λ end. ltb (length bs) end) (ends bs)
+
+-- how many of the ends come before the first one beyond n
+unfoldable pub passed : ℕ → List ℕ → ℕ
+passed n [] = 0
+passed n (end ∷ later) = cond (ltb n end) 0 (suc (passed n later))
+
+-- how many fields, from the map on, are whole; one whose bit is down is whole with the field before it
+unfoldable pub wholeFields : List ℕ → ℕ
+wholeFields bs = passed (length bs) (ends bs)
+
+-- how many more bytes finish the first field that is not whole; 0 where all are
+unfoldable pub missing : List ℕ → ℕ
+missing bs = getD (ends bs) (wholeFields bs) 0 - length bs
 
 unfoldable pub isMap : ℕ → OrRefusal ℕ → Bool
 isMap map (gives m) = eqb m map
@@ -63,7 +81,7 @@ readerConditions bs =
     ∷ (1, eqb (length bs) 1)
     ∷ (2, ltb 14 kind || oneOf (0 ∷ 2 ∷ 3 ∷ []) kind)
     ∷ (3, not (isMap map (mapOf kind)))
-    ∷ (1, cutField map bs)
+    ∷ (1, cutField bs)
     ∷ []
 
 -- ---- the program that calls, the host, and all programs together
@@ -74,9 +92,9 @@ isRow h source recipient r = eqb (r .handle .0) (h .0) && (eqb (r .source) sourc
 unfoldable pub holdsPair : List ℕ → ℕ → List ℕ → LogRow → Bool
 holdsPair values i v r = eqb (r .identity) i && sameBytes (part values (r .first) (r .length)) v
 
-unfoldable pub isMissing : Option EscrowRow → Bool
-isMissing none = true
-isMissing (some r) = false
+unfoldable pub isAbsent : Option EscrowRow → Bool
+isAbsent none = true
+isAbsent (some r) = false
 
 unfoldable pub lengthIn : Option EscrowRow → ℕ
 lengthIn none = 0
@@ -96,7 +114,7 @@ callConditions t c =
     ∷ (7, (eqb kind 1 && taken) || (eqb kind 14 && (ltb (f .place) 16 && not taken)))
     ∷ (8, oneOf (5 ∷ 6 ∷ []) kind && not (eqb (f .place) (b .running)))
     ∷ (9, oneOf (1 ∷ 10 ∷ 11 ∷ 12 ∷ []) kind && eqb (f .identity) 0)
-    ∷ (10, eqb kind 12 && isMissing row)
+    ∷ (10, eqb kind 12 && isAbsent row)
     ∷ (
       11,
       (oneOf (5 ∷ 6 ∷ 9 ∷ 11 ∷ []) kind && ltb 256 (f .offset + size))
@@ -132,22 +150,47 @@ pub data UsedAt (bs : List ℕ) (code used : ℕ) : Type 0 where
   unread : oneOf (1 ∷ 2 ∷ 3 ∷ 15 ∷ []) code ≡ true → used ≡ 0 → UsedAt bs code used
   was-read : oneOf (1 ∷ 2 ∷ 3 ∷ 15 ∷ []) code ≡ false → (c : Call) → read bs ≡ whole c used → UsedAt bs code used
 
+-- the answer number at a refusal: with 1 the bytes that are missing, else 0
+unfoldable pub numberAt : List ℕ → ℕ → ℕ
+numberAt bs code = cond (eqb code 1) (missing bs) 0
+
 pub record Refused (t : Tables) (e : Element) (r : Result) : Type 0 where
   pub tables : r .tables ≡ t
-  pub number : r .answer .number ≡ 0
+  pub number : r .answer .number ≡ numberAt (e .bytes) (r .answer .code)
   pub shown : r .answer .shown ≡ []
   pub used : UsedAt (e .bytes) (r .answer .code) (r .answer .used)
   pub output : (out : List ℕ) → outputAfter (r .answer) out ≡ out
+
+-- the same call with more bytes behind its record
+abbrev pub followed : Element → List ℕ → Element
+followed e more = record { bytes = e .bytes ++ more; outputSize = e .outputSize }
 
 module _ (box : Tables → Element → Result) where
   -- each number is given when its condition holds and no earlier one does, and at no other time
   abbrev pub EachNumber : Type 0
   EachNumber = (t : Tables) (e : Element) (n : ℕ) → (box t e .answer .code ≡ n) ↔ First n (conditions t e)
 
-  -- a refusal has number 0, shows nothing and alters nothing
+  -- a refusal has the answer number of its code, shows nothing and alters nothing
   abbrev pub RefusalsAlterNothing : Type 0
   RefusalsAlterNothing = (t : Tables) (e : Element) → (box t e .answer .code ≡ 0 → ⊥) → Refused t e (box t e)
 
   -- 5 is given no more, whatever the box record, the tables and the element
   abbrev pub NeverFive : Type 0
   NeverFive = (t : Tables) (e : Element) → box t e .answer .code ≡ 5 → ⊥
+
+  -- 1 is the only refusal with an answer number other than 0, and its own is never 0
+  abbrev pub NumberOnlyWithOne : Type 0
+  NumberOnlyWithOne = (t : Tables) (e : Element) → (box t e .answer .code ≡ 0 → ⊥)
+      → (box t e .answer .code ≡ 1) ↔ (box t e .answer .number ≡ 0 → ⊥)
+
+  -- where a record gets 1 with n
+  pub record Missing (t : Tables) (e : Element) (n : ℕ) : Type 0 where
+    -- followed by fewer than n bytes it gets 1 with as many fewer, and it is the same field that is cut
+    pub fewer : (more : List ℕ) → length more < n
+        → let a = box t (followed e more) .answer in
+        (a .code ≡ 1) × (a .number + length more ≡ n) × (wholeFields (e .bytes ++ more) ≡ wholeFields (e .bytes))
+    -- followed by n bytes, whatever they are, that field is whole: if 1 is given now, it is for a later one
+    pub enough : (more : List ℕ) → length more ≡ n → wholeFields (e .bytes) < wholeFields (e .bytes ++ more)
+
+  abbrev pub MissingIsExact : Type 0
+  MissingIsExact = (t : Tables) (e : Element) → box t e .answer .code ≡ 1 → Missing t e (box t e .answer .number)

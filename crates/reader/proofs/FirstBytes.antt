@@ -11,7 +11,7 @@ use Rattle.record.specs.Layout.{Kind, stands, kindOf, gives, refuses, mapIn}
 use Rattle.record.specs.Read.{read, afterMap, readKind, readFields, fields, cut, unknown, wrongMap}
 use Rattle.reader.specs.Scan.{callOf, ended}
 
-pub empty : (bs : List ℕ) → length bs ≡ 0 → read bs ≡ cut
+pub empty : (bs : List ℕ) → length bs ≡ 0 → read bs ≡ cut 1
 unfolding read
 empty [] e = refl
 empty (m ∷ bs) e = absurd (omega arith)
@@ -21,7 +21,7 @@ unfolding read
 bit-down [] l e = absurd (omega arith)
 bit-down (m ∷ bs) l e = rw e
 
-pub no-kind-byte : (bs : List ℕ) → length bs ≡ 1 → stands (getD bs 0 0) 0 ≡ true → read bs ≡ cut
+pub no-kind-byte : (bs : List ℕ) → length bs ≡ 1 → stands (getD bs 0 0) 0 ≡ true → read bs ≡ cut 1
 unfolding read afterMap
 no-kind-byte [] l e = absurd (omega arith)
 no-kind-byte (m ∷ []) l e = rw e

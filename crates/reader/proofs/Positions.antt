@@ -12,35 +12,36 @@ use borrow.Author.Tests.{lt-ltb, le-ltb}
 use Rattle.reader.specs.declared.Three as three
 use Rattle.reader.specs.declared.Three.the-variants.{Numbers, Cut as CutThree}
 use Rattle.record.specs.declared.Fields.{Fields}
-use Rattle.record.specs.Layout.{Kind, stands, OrRefusal, gives, refuses}
-use Rattle.record.specs.Read.{Reading, refused, cut, whole, field, contents, bytesField, fields}
-use Rattle.reader.specs.Scan.{fieldAt, threeIn, after, threeAt, callOf, ended}
+use Rattle.record.specs.Layout.{Kind, stands}
+use Rattle.record.specs.Read.{Reading, cut, whole, field, contents, bytesField, fields}
+use Rattle.reader.specs.Scan.{OrCut, reads, misses, fieldAt, threeIn, after, threeAt, callOf, ended}
 
 module _ (bs : List ℕ) where
   -- going on from the position after a field
-  abbrev onField : (ℕ → List ℕ → Reading) → OrRefusal (ℕ × ℕ) → Reading
-  onField next (gives p) = next (p .0) (drop (p .1) bs)
-  onField next (refuses n) = refused n 0
+  abbrev onField : (ℕ → List ℕ → Reading) → OrCut (ℕ × ℕ) → Reading
+  onField next (reads p) = next (p .0) (drop (p .1) bs)
+  onField next (misses n) = cut n
 
   field-at : (at : ℕ) (here : Bool) (n : ℕ) (next : ℕ → List ℕ → Reading)
       → field here n next (drop at bs) ≡ onField next (fieldAt bs at here n)
-  unfolding field fieldAt cut
+  unfolding field contents fieldAt
   field-at at false n next = refl
-  field-at at true n next = rw (length-drop, drop-drop) (either (ltb (length bs - at) n) _)
+  field-at at true n next = rw (length-drop, drop-drop) (either (ltb (length bs - at) n) _ _)
     where
-      either : (b : Bool) (p : ℕ × ℕ) → cond b cut (onField next (gives p)) ≡ onField next (cond b (refuses 1) (gives p))
-      either true p = refl
-      either false p = refl
+      either : (b : Bool) (m : ℕ) (p : ℕ × ℕ)
+          → cond b (cut m) (onField next (reads p)) ≡ onField next (cond b (misses m) (reads p))
+      either true m p = refl
+      either false m p = refl
 
-  abbrev onThree : (ℕ → ℕ → ℕ → List ℕ → Reading) → OrRefusal (ℕ × ℕ × ℕ × ℕ) → Reading
-  onThree next (gives p) = next (p .0) (p .1) (p .2) (drop (p .3) bs)
-  onThree next (refuses n) = refused n 0
+  abbrev onThree : (ℕ → ℕ → ℕ → List ℕ → Reading) → OrCut (ℕ × ℕ × ℕ × ℕ) → Reading
+  onThree next (reads p) = next (p .0) (p .1) (p .2) (drop (p .3) bs)
+  onThree next (misses n) = cut n
 
-  on-after : (next : ℕ → ℕ → ℕ → List ℕ → Reading) (k : ℕ → List ℕ → Reading) (m : ℕ × ℕ → OrRefusal (ℕ × ℕ × ℕ × ℕ)) (t : OrRefusal (ℕ × ℕ))
+  on-after : (next : ℕ → ℕ → ℕ → List ℕ → Reading) (k : ℕ → List ℕ → Reading) (m : ℕ × ℕ → OrCut (ℕ × ℕ × ℕ × ℕ)) (t : OrCut (ℕ × ℕ))
       → ((p : ℕ × ℕ) → k (p .0) (drop (p .1) bs) ≡ onThree next (m p)) → onField k t ≡ onThree next (after t m)
   unfolding after
-  on-after next k m (gives p) h = h p
-  on-after next k m (refuses n) h = refl
+  on-after next k m (reads p) h = h p
+  on-after next k m (misses n) h = refl
 
   three-on : (at map bit n : ℕ) (next : ℕ → ℕ → ℕ → List ℕ → Reading)
       → field (stands map bit) n (λ x. field (stands map (bit + 1)) 8 (λ y. field (stands map (bit + 2)) 2 (next x y))) (drop at bs)
@@ -62,10 +63,10 @@ module _ (bs : List ℕ) where
     unfolding threeIn
     three-at g = three-on at map bit n next ∙ rw (← e, g)
 
-    pub three-cut : r ≡ CutThree
+    pub three-cut : {missing : ℕ} → r ≡ CutThree missing
         → field (stands map bit) n (λ x. field (stands map (bit + 1)) 8 (λ y. field (stands map (bit + 2)) 2 (next x y))) (drop at bs)
-        ≡ cut
-    unfolding threeIn cut
+        ≡ cut missing
+    unfolding threeIn
     three-cut g = three-on at map bit n next ∙ rw (← e, g)
 
   -- the six fields, up to the contents of the last
@@ -78,7 +79,8 @@ module _ (bs : List ℕ) where
   unfolding fields bytesField
   fields-at map next {at = at} e g e′ g′ = three-at 2 map 1 1 _ e g ∙ three-at at map 4 2 _ e′ g′
 
-  pub contents-cut : (n at : ℕ) (next : List ℕ → List ℕ → Reading) → length bs - at < n → contents n next (drop at bs) ≡ cut
+  pub contents-cut : (n at : ℕ) (next : List ℕ → List ℕ → Reading) → length bs - at < n
+      → contents n next (drop at bs) ≡ cut (n - (length bs - at))
   unfolding contents
   contents-cut n at next h = rw (length-drop, lt-ltb _ _ h)
 

@@ -6,7 +6,7 @@ ghost use lib.ListN.{length, take, drop};
 ghost use Rattle.record.specs.Layout.{kindOf};
 ghost use Rattle.record.specs.Read.{fromLittle, read};
 ghost use Rattle.record.specs.Meaning.{bytesIn, callIn, readingIn, PartWithin, CallWithin, ReadingWithin};
-ghost use Rattle.reader.specs.Scan.{takenIn, fieldAt, TakenWithin, threeIn, threeAt, ThreeWithin, callOf, fieldsIn};
+ghost use Rattle.reader.specs.Scan.{takenIn, fieldAt, TakenWithin, threeIn, threeAt, ThreeWithin, callOf, contentsIn, fieldsIn};
 use fnv::Tag;
 use record::Call;
 use record::Draw;
@@ -18,16 +18,16 @@ use record::Reading;
 use record::has;
 use record::legal_map;
 
-// A field's number, 0 where its bit is down, and the position after it.
+// A field's number, 0 where its bit is down, and the position after it; or how many bytes it misses.
 enum Taken {
     Number(u64, usize),
-    Cut,
+    Cut { missing: usize },
 }
 
-// The numbers of three fields, and the position after them.
+// The numbers of three fields, and the position after them; or how many bytes the one that is cut misses.
 enum Three {
     Numbers(u64, u64, u64, usize),
-    Cut,
+    Cut { missing: usize },
 }
 
 // A byte, with its bound, whatever the index it was read at.
@@ -65,8 +65,11 @@ fn field_at(bytes: &[u8], at: usize, here: bool, width: usize) -> Taken
     if !here {
         return Taken::Number(0, at);
     }
-    if bytes.len() - at < width {
-        return Taken::Cut;
+    let there = bytes.len() - at;
+    if there < width {
+        return Taken::Cut {
+            missing: width - there,
+        };
     }
     Taken::Number(number_at(bytes, at, width), at + width)
 }
@@ -79,16 +82,16 @@ fn three_at(bytes: &[u8], at: usize, map: u8, bit: u8, width: usize) -> Three
     ensures { λ r. ⌜ threeIn r ≡ threeAt (now (bytes .entry)) at map bit width ⌝ }
     ensures { λ r. ⌜ ThreeWithin (now (bytes .entry)) width r ⌝ }
 {
-    let Taken::Number(first, a) = field_at(bytes, at, has(map, bit), width) else {
-        return Three::Cut;
-    };
-    let Taken::Number(second, b) = field_at(bytes, a, has(map, bit + 1), 8) else {
-        return Three::Cut;
-    };
-    let Taken::Number(third, next) = field_at(bytes, b, has(map, bit + 2), 2) else {
-        return Three::Cut;
-    };
-    Three::Numbers(first, second, third, next)
+    match field_at(bytes, at, has(map, bit), width) {
+        Taken::Cut { missing } => Three::Cut { missing },
+        Taken::Number(first, a) => match field_at(bytes, a, has(map, bit + 1), 8) {
+            Taken::Cut { missing } => Three::Cut { missing },
+            Taken::Number(second, b) => match field_at(bytes, b, has(map, bit + 2), 2) {
+                Taken::Cut { missing } => Three::Cut { missing },
+                Taken::Number(third, next) => Three::Numbers(first, second, third, next),
+            },
+        },
+    }
 }
 
 // The call of a kind. The reader asks it of kinds of the table alone; for any other number it is a report.
@@ -138,37 +141,49 @@ fn call_of(kind: u8, f: Fields, bytes: Part) -> Call
     }
 }
 
+// The contents of the bytes field, and with them the call.
+fn read_contents(bytes: &[u8], kind: u8, f: Fields, part: Part) -> Reading
+    requires { ⌜ part .start ≤ length (now bytes) ⌝ }
+    ensures { λ r. ⌜ readingIn (now (bytes .entry)) r ≡ contentsIn (now (bytes .entry)) kind f part ⌝ }
+    ensures { λ r. ⌜ ReadingWithin (now (bytes .entry)) r ⌝ }
+{
+    let n = part.count as usize;
+    let there = bytes.len() - part.start;
+    if there < n {
+        return Reading::Cut { missing: n - there };
+    }
+    let end = part.start + n;
+    Reading::Whole {
+        call: call_of(kind, f, part),
+        used: end,
+    }
+}
+
 // The fields of a record whose map is its kind's.
 fn read_fields(bytes: &[u8], kind: u8, map: u8) -> Reading
     requires { ⌜ 2 ≤ length (now bytes) ⌝ }
     ensures { λ r. ⌜ readingIn (now (bytes .entry)) r ≡ fieldsIn (now (bytes .entry)) map kind ⌝ }
     ensures { λ r. ⌜ ReadingWithin (now (bytes .entry)) r ⌝ }
 {
-    let Three::Numbers(place, identity, offset, at) = three_at(bytes, 2, map, 1, 1) else {
-        return Reading::Cut;
-    };
-    let Three::Numbers(size, number, count, start) = three_at(bytes, at, map, 4, 2) else {
-        return Reading::Cut;
-    };
-    let n = count as usize;
-    if bytes.len() - start < n {
-        return Reading::Cut;
-    }
-    let f = Fields {
-        place: place as u8,
-        identity,
-        offset: offset as u16,
-        length: size as u16,
-        number,
-    };
-    let part = Part {
-        start,
-        count: count as u16,
-    };
-    let end = start + n;
-    Reading::Whole {
-        call: call_of(kind, f, part),
-        used: end,
+    match three_at(bytes, 2, map, 1, 1) {
+        Three::Cut { missing } => Reading::Cut { missing },
+        Three::Numbers(place, identity, offset, at) => match three_at(bytes, at, map, 4, 2) {
+            Three::Cut { missing } => Reading::Cut { missing },
+            Three::Numbers(size, number, count, start) => {
+                let f = Fields {
+                    place: place as u8,
+                    identity,
+                    offset: offset as u16,
+                    length: size as u16,
+                    number,
+                };
+                let part = Part {
+                    start,
+                    count: count as u16,
+                };
+                read_contents(bytes, kind, f, part)
+            }
+        },
     }
 }
 
@@ -178,14 +193,14 @@ pub fn read_call(bytes: &[u8]) -> Reading
     ensures { λ r. ⌜ ReadingWithin (now (bytes .entry)) r ⌝ }
 {
     if bytes.len() == 0 {
-        return Reading::Cut;
+        return Reading::Cut { missing: 1 };
     }
     let map = bytes[0];
     if !has(map, 0) {
         return Reading::UnknownKind;
     }
     if bytes.len() == 1 {
-        return Reading::Cut;
+        return Reading::Cut { missing: 1 };
     }
     let kind = bytes[1];
     let LegalMap::Map(legal) = legal_map(kind) else {

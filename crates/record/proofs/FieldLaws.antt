@@ -1,5 +1,5 @@
 -- The fields of a record, each way: a written field is read back, and a field that was read was so written. Assumes nothing.
-use Prim.Native.Nat.{ℕ, _+_, _^_, _≤_, _<_}
+use Prim.Native.Nat.{ℕ, _+_, _-_, _^_, _≤_, _<_}
 use mathlib.Core.Path.{_≡_, refl, sym, _∙_}
 use mathlib.Core.Bool.{Bool, true, false, cond}
 use mathlib.Core.List.{List, [], _∷_, _++_, append-assoc}
@@ -38,7 +38,7 @@ kept map f =
 field-back : (here : Bool) (n x : ℕ) (next : ℕ → List ℕ → Reading) (rest : List ℕ)
     → x < 256 ^ n
     → field here n next (only here (little n x) ++ rest) ≡ next (cond here x 0) rest
-unfolding field only
+unfolding field contents only
 field-back false n x next rest h = refl
 field-back true n x next rest h =
     let l = length-little n x in
@@ -83,7 +83,7 @@ pub not-refused : {P : Type 0} {code number used : ℕ} {c : Call} → refused c
 not-refused e = let z : _≡_ {A = ℕ} 0 1 = cc in absurd (omega arith)
 
 uncut : (n : ℕ) (bs : List ℕ) (r : Reading) {c : Call} {used : ℕ}
-    → cond (ltb (length bs) n) cut r ≡ whole c used
+    → cond (ltb (length bs) n) (cut (n - length bs)) r ≡ whole c used
     → (n ≤ length bs) × (r ≡ whole c used)
 unfolding cut
 uncut n bs r e =
@@ -109,7 +109,7 @@ field-from : {P : Type 0} {here : Bool} {n : ℕ} {next : ℕ → List ℕ → R
     → field here n next bs ≡ whole c used
     → ((x : ℕ) (rest : List ℕ) → Begins here n bs x rest → next x rest ≡ whole c used → P)
     → P
-unfolding field only
+unfolding field contents only
 field-from {here = false} {n} {bs} h e go =
     go 0 bs (record { split = refl; below = one-le-pow n 256 (omega arith); absent = refl; bytes = h }) e
 field-from {here = true} {n} {bs} h e go =

@@ -34,7 +34,7 @@ callIn bs (HandOver p) = handOver p
 
 unfoldable pub readingIn : List ℕ → found.Reading → Reading
 readingIn bs (Whole c used) = whole (callIn bs c) used
-readingIn bs Cut = cut
+readingIn bs (Cut missing) = cut missing
 readingIn bs UnknownKind = unknown
 readingIn bs WrongMap = wrongMap
 
@@ -58,7 +58,7 @@ CallWithin bs (HandOver p) = Unit {0}
 
 unfoldable pub ReadingWithin : List ℕ → found.Reading → Type 0
 ReadingWithin bs (Whole c used) = CallWithin bs c × (used ≤ length bs)
-ReadingWithin bs Cut = Unit {0}
+ReadingWithin bs (Cut missing) = Unit {0}
 ReadingWithin bs UnknownKind = Unit {0}
 ReadingWithin bs WrongMap = Unit {0}
 

@@ -14,9 +14,9 @@ pub data Reading : Type 0 where
   refused : (code number : ℕ) → Reading
   whole : Call → (used : ℕ) → Reading
 
--- the record ends before a field does, or is empty
-unfoldable pub cut : Reading
-cut = refused 1 0
+-- the record ends before a field does, or is empty: so many more bytes finish that field
+unfoldable pub cut : ℕ → Reading
+cut missing = refused 1 missing
 
 -- bit 0 is down, or there is no such kind
 unfoldable pub unknown : Reading
@@ -31,16 +31,16 @@ unfoldable pub fromLittle : List ℕ → ℕ
 fromLittle [] = 0
 fromLittle (b ∷ bs) = b + 256 * fromLittle bs
 
+-- n bytes, and what follows them; or how many of them are missing
+unfoldable pub contents : ℕ → (List ℕ → List ℕ → Reading) → List ℕ → Reading
+contents n next bs = cond (ltb (length bs) n) (cut (n - length bs)) (next (take n bs) (drop n bs))
+
 -- a field of n bytes where its bit stands, and what follows it
 unfoldable pub field : Bool → ℕ → (ℕ → List ℕ → Reading) → List ℕ → Reading
-field false n next bs = next 0 bs
-field true n next bs = cond (ltb (length bs) n) cut (next (fromLittle (take n bs)) (drop n bs))
+field false n next = next 0
+field true n next = contents n (λ v. next (fromLittle v))
 
--- n bytes, and what follows them
-unfoldable pub contents : ℕ → (List ℕ → List ℕ → Reading) → List ℕ → Reading
-contents n next bs = cond (ltb (length bs) n) cut (next (take n bs) (drop n bs))
-
--- the bytes field: a count of 2 bytes, and then that many
+-- the bytes field is two fields: a count of 2 bytes, and then that many
 unfoldable pub bytesField : Bool → (List ℕ → List ℕ → Reading) → List ℕ → Reading
 bytesField here next = field here 2 (λ n. contents n next)
 
@@ -64,10 +64,10 @@ readKind total map none bs = unknown
 readKind total map (some k) bs = cond (eqb (k .map) map) (readFields total k bs) wrongMap
 
 unfoldable pub afterMap : ℕ → ℕ → List ℕ → Reading
-afterMap total map [] = cut
+afterMap total map [] = cut 1
 afterMap total map (n ∷ bs) = readKind total map (kindOf n) bs
 
 -- order: empty record 1, bit 0 down 2, no kind byte 1, kind 2, map 3, cut field 1
 unfoldable pub read : List ℕ → Reading
-read [] = cut
+read [] = cut 1
 read (map ∷ bs) = cond (stands map 0) (afterMap (1 + length bs) map bs) unknown

@@ -73,8 +73,8 @@ pub enum Call {
 pub enum Reading {
     // A call, and how many bytes its record has.
     Whole { call: Call, used: usize },
-    // The record ends before a field does, or is empty.
-    Cut,
+    // The record ends before a field does, or is empty: so many more bytes finish that field.
+    Cut { missing: usize },
     // Bit 0 of the map is down, or there is no such kind.
     UnknownKind,
     // The map isn't the kind's.

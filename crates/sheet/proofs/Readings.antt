@@ -20,23 +20,22 @@ pub data Ends (most : ℕ) : Reading → Type 0 where
   read-on : {c : Call} {used : ℕ} → 2 ≤ used → used ≤ most → Ends most (whole c used)
 
 -- cut, or what follows
-uncut : {most : ℕ} (b : Bool) (r : Reading) → Ends most r → Ends most (cond b cut r)
+uncut : {most : ℕ} (b : Bool) (n : ℕ) (r : Reading) → Ends most r → Ends most (cond b (cut n) r)
 unfolding cut lastCode
-uncut true r h = last refl
-uncut false r h = h
+uncut true n r h = last refl
+uncut false n r h = h
 
--- what follows a field is no longer than the field with what follows it
+-- what follows them is no longer than they and what follows them
+contents-ends : {most : ℕ} (n : ℕ) (next : List ℕ → List ℕ → Reading) (bs : List ℕ)
+    → ((v rest : List ℕ) → length rest ≤ length bs → Ends most (next v rest)) → Ends most (contents n next bs)
+unfolding contents
+contents-ends n next bs go = uncut (ltb (length bs) n) _ _ (go (take n bs) (drop n bs) (omega (arith, length-drop n bs)))
+
 field-ends : {most : ℕ} (here : Bool) (n : ℕ) (next : ℕ → List ℕ → Reading) (bs : List ℕ)
     → ((x : ℕ) (rest : List ℕ) → length rest ≤ length bs → Ends most (next x rest)) → Ends most (field here n next bs)
 unfolding field
 field-ends false n next bs go = go 0 bs (omega arith)
-field-ends true n next bs go =
-    uncut (ltb (length bs) n) _ (go (fromLittle (take n bs)) (drop n bs) (omega (arith, length-drop n bs)))
-
-contents-ends : {most : ℕ} (n : ℕ) (next : List ℕ → List ℕ → Reading) (bs : List ℕ)
-    → ((v rest : List ℕ) → length rest ≤ length bs → Ends most (next v rest)) → Ends most (contents n next bs)
-unfolding contents
-contents-ends n next bs go = uncut (ltb (length bs) n) _ (go (take n bs) (drop n bs) (omega (arith, length-drop n bs)))
+field-ends true n next bs go = contents-ends n (λ v. next (fromLittle v)) bs (λ v rest l. go (fromLittle v) rest l)
 
 fields-end : {most : ℕ} (total : ℕ) (k : Kind) (bs : List ℕ) → 2 + length bs ≤ total → total ≤ most → Ends most (readFields total k bs)
 unfolding readFields fields bytesField

@@ -1,4 +1,5 @@
--- The example by hand overs, to the byte; document 01's own script; the line for too long a script. The proofs are in proofs/Examples.antt.
+-- The example by hand overs, to the byte; document 01's own script; a script that is cut; the line for too long a script.
+-- The proofs are in proofs/Examples.antt.
 use Prim.Native.Nat.{ℕ}
 use mathlib.Core.Path.{_≡_}
 use mathlib.Core.List.{List, _++_}
@@ -31,6 +32,17 @@ retiredSheet = bytesOf "code number used bytes\n" ++ bytesOf "0 0 11 -\n" ++ byt
 
 abbrev pub RetiredExample : Type 0
 RetiredExample = sheet retiredScript ≡ retiredSheet
+
+-- the example cut before the count of its heap write: two bytes are missing
+unfoldable pub cutScript : List ℕ
+cutScript = hex 11 0x07_01_00_0100000000000000 ++ hex 3 0x03_0E_00 ++ hex 5 0x4B_05_00_0000
+
+unfoldable pub cutSheet : List ℕ
+cutSheet =
+    bytesOf "code number used bytes\n" ++ bytesOf "0 0 11 -\n" ++ bytesOf "0 0 3 -\n" ++ bytesOf "1 2 0 -\n"
+
+abbrev pub CutExample : Type 0
+CutExample = sheet cutScript ≡ cutSheet
 
 -- a refusal by the program: code 16, number 0, no byte used, none shown
 abbrev pub TooLongLine : Type 0

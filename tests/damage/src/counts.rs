@@ -2,11 +2,15 @@
 
 use std::process::ExitCode;
 
-use differential::HandOvers;
+use differential::{HandOvers, Missing};
 use interface::{Sides, Tally};
+use second::Answer;
 
 /// More hand overs of each sort than this are made on sound boxes.
 const HAND_OVERS: u64 = 100;
+
+/// More cut records that miss 1 to 8 bytes, of each sort, and that miss more.
+const CUT: u64 = 100;
 
 /// Progress is told after so many calls.
 const PROGRESS: u64 = 500_000;
@@ -22,16 +26,18 @@ pub struct Counts {
     written: [u64; 18],
     /// Those on sound boxes, by the proved side's running place.
     hand_overs: HandOvers,
+    /// Calls with code 1, by what the record misses.
+    missing: Missing,
 }
 
 impl Counts {
-    /// One call on both sides. The code and the bytes used, where they agree.
+    /// One call on both sides. The answer, where they agree.
     pub fn call(
         &mut self,
         sides: &mut Sides,
         record: &[u8],
         what: impl Fn() -> String,
-    ) -> Option<(u8, usize)> {
+    ) -> Option<Answer> {
         let running = sides.host.held.running;
         let outcome = sides.call(record);
         self.calls += 1;
@@ -42,7 +48,8 @@ impl Counts {
         let answer = outcome.ok()?;
         self.codes[usize::from(answer.code)] += 1;
         self.hand_overs.add(running, record, answer.code.into());
-        Some((answer.code, answer.used))
+        self.missing.add(answer.code.into(), answer.number);
+        Some(answer)
     }
 
     /// One writing, and whether both sides agree.
@@ -74,8 +81,8 @@ impl Counts {
         }
     }
 
-    /// Every number that a host can meet was met, and neither 16 nor 5, which is
-    /// retired. Hand overs of each sort were met.
+    /// Every code that a host can meet was met, and neither 16 nor 5, which is
+    /// retired. Hand overs of each sort were met, and cut records.
     pub fn summary(mut self) -> ExitCode {
         println!("code calls writings");
         for code in 0..18 {
@@ -84,6 +91,11 @@ impl Counts {
         println!("{}", self.hand_overs);
         let often = self.hand_overs.each_above(HAND_OVERS);
         self.tally.check(often, || format!("hand overs of each sort above {HAND_OVERS}"));
+        println!("{}", self.missing);
+        let often = self.missing.each_above(CUT);
+        self.tally.check(often, || format!("cut records of each sort above {CUT}"));
+        let right = self.missing.only_with_one();
+        self.tally.check(right, || "1 is not the only refusal with a number".into());
         for code in 0..18 {
             let by_call = self.codes[code] > 0;
             let wanted = code < 16 && code != 5;

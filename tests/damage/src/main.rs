@@ -3,8 +3,8 @@
 //!
 //!     damage CALLS
 //!
-//! First what has a plan: each damage, each pair of them, each wrong size. Then
-//! random boxes and records until CALLS calls are made.
+//! First what has a plan: each damage, each pair of them, each wrong size, each
+//! cut of a record. Then random boxes and records until CALLS calls are made.
 
 #![forbid(unsafe_code)]
 
@@ -30,6 +30,9 @@ fn main() -> ExitCode {
     planned::sizes(&mut counts);
     planned::damages_alone(&mut counts);
     planned::damages_in_pairs(&mut counts);
+    planned::cuts(&mut counts);
+    planned::contents_cut(&mut counts);
+    planned::cuts_followed(&mut counts);
     counts.part("planned");
     for seed in 0.. {
         if counts.calls() >= calls {

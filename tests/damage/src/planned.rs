@@ -1,26 +1,26 @@
-//! Each damage alone, each pair of damages, each wrong size.
+//! Each damage alone, each pair of damages, each wrong size, each cut of a record.
 
 use differential::calls::{attest, create, hand_over, record_of};
 use differential::records::WRONG_OUTPUT_SIZES;
-use differential::{bases, broken, damages, pairs, play, Random};
+use differential::{bases, broken, damages, pairs, play, Cut, Next, Random, LAYOUTS};
 use interface::Sides;
-use second::{Call, Host, NONE_RUNS, OUTPUT_SIZE};
+use second::{Answer, Call, Host, NONE_RUNS, OUTPUT_SIZE};
 
 use crate::counts::Counts;
 
 /// Malformed records, and whole ones of which most would alter something.
 fn records() -> Vec<Vec<u8>> {
-    let bytes: [&[u8]; 5] = [&[], &[2], &[1], &[3, 2, 0], &[1, 14]];
+    let bytes: [&[u8]; 6] = [&[], &[2], &[1], &[3, 2, 0], &[1, 14], &[7, 1, 0, 1]];
     let calls = [Call::Report, hand_over(NONE_RUNS), Call::Exit, create(9, 1), attest(1, 2)];
     bytes.iter().map(|bytes| bytes.to_vec()).chain(calls.iter().map(record_of)).collect()
 }
 
-/// Code 15 to each record.
+/// Code 15 and number 0 to each record.
 fn not_sound(counts: &mut Counts, sides: &mut Sides, records: &[Vec<u8>], what: &str) {
     let mut all = true;
     for record in records {
         let met = counts.call(sides, record, || what.into());
-        all &= met.map_or(true, |(code, _)| code == 15);
+        all &= met.map_or(true, |answer| (answer.code, answer.number) == (15, 0));
     }
     counts.holds(all, what);
 }
@@ -67,10 +67,87 @@ pub fn damages_in_pairs(counts: &mut Counts) {
                 done += 1;
                 let mut sides = Sides::new(host, vec![7; OUTPUT_SIZE]);
                 let what = format!("{}, {}", first.name, second.name);
-                let two = [random.pick(&[0, 1, 2, 3, 4]), random.pick(&[5, 6, 7, 8, 9])];
+                let two = [random.pick(&[0, 1, 2, 3, 4, 5]), random.pick(&[6, 7, 8, 9, 10])];
                 not_sound(counts, &mut sides, &two.map(|n| records[n].clone()), &what);
             }
         }
     }
     counts.holds(done > 4_000, "pairs of damages");
+}
+
+/// Every field of every kind cut at every byte, the empty record too, on each
+/// base.
+pub fn cuts(counts: &mut Counts) {
+    for base in bases() {
+        let mut sides = Sides::new(base, vec![7; OUTPUT_SIZE]);
+        for layout in &LAYOUTS {
+            for fill in [0x00, 0x11, 0xFF] {
+                for cut in layout.cuts(fill, 3) {
+                    is_cut(counts, &mut sides, &cut);
+                }
+            }
+        }
+    }
+}
+
+/// Contents cut at every byte, or at some where there are too many.
+pub fn contents_cut(counts: &mut Counts) {
+    let [_, base, ..] = bases();
+    let mut sides = Sides::new(base, vec![7; OUTPUT_SIZE]);
+    for layout in LAYOUTS.iter().filter(|layout| layout.bytes) {
+        for count in [1, 2, 255, 256, 257, 300, 65_535] {
+            let step = if count > 300 { 4_369 } else { 1 };
+            for there in (0..count).step_by(step).chain([count - 1]) {
+                is_cut(counts, &mut sides, &layout.contents_cut(0xFF, count, there.into()));
+            }
+        }
+    }
+}
+
+/// The record of a cut gets what it misses.
+fn is_cut(counts: &mut Counts, sides: &mut Sides, cut: &Cut) {
+    misses(counts, sides, &cut.record, cut.missing);
+}
+
+/// Code 1 with what is missing, nothing used and nothing shown.
+fn misses(counts: &mut Counts, sides: &mut Sides, record: &[u8], missing: usize) {
+    let what = || format!("a cut record that misses {missing}");
+    let wanted = Answer { code: 1, number: missing as u64, used: 0, shown: 0 };
+    let met = counts.call(sides, record, what);
+    counts.holds(met.map_or(true, |answer| answer == wanted), &what());
+}
+
+/// Every cut of every kind followed by as many bytes as are missing or fewer, all
+/// of them the same.
+pub fn cuts_followed(counts: &mut Counts) {
+    let [_, base, ..] = bases();
+    for layout in &LAYOUTS {
+        for (fill, filler) in [(0x00, 0x00), (0x11, 0x00), (0x11, 0x19), (0xFF, 0x01), (0xFF, 0xFF)]
+        {
+            for cut in layout.cuts(fill, 3) {
+                let mut sides = Sides::new(base.clone(), vec![7; OUTPUT_SIZE]);
+                for more in 0..cut.missing {
+                    let record = cut.followed_by(filler, more);
+                    misses(counts, &mut sides, &record, cut.missing - more);
+                }
+                field_is_read(counts, &mut sides, &cut, filler);
+            }
+        }
+    }
+}
+
+/// With the missing bytes there a later field is missing, the kind or the map is
+/// refused, or a call is read.
+fn field_is_read(counts: &mut Counts, sides: &mut Sides, cut: &Cut, filler: u8) {
+    let record = cut.followed_by(filler, cut.missing);
+    let what = || format!("a cut record followed by {} times {filler:#04x}", cut.missing);
+    let wanted = match cut.next(filler) {
+        Next::Missing(missing) => return misses(counts, sides, &record, missing),
+        Next::Refused(code) => (code, 0),
+        Next::Whole => (0, record.len()),
+    };
+    if let Some(Answer { code, used, .. }) = counts.call(sides, &record, what) {
+        let read = if used == 0 { (code, 0) } else { (0, used) };
+        counts.holds(read == wanted, &what());
+    }
 }

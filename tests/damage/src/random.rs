@@ -26,7 +26,7 @@ fn script(counts: &mut Counts, seed: u64) {
     let mut rest = &script[..];
     while !rest.is_empty() {
         match counts.call(&mut sides, rest, || format!("script, seed {seed}")) {
-            Some((code, used)) if ![1, 2, 3].contains(&code) => rest = &rest[used..],
+            Some(answer) if ![1, 2, 3].contains(&answer.code) => rest = &rest[answer.used..],
             _ => break,
         }
     }

@@ -6,6 +6,7 @@ use second::Call;
 
 use crate::calls::record_of;
 
+#[derive(Clone)]
 pub struct Case {
     pub name: String,
     pub script: Vec<u8>,
@@ -31,7 +32,7 @@ impl Case {
         self.answer(0, number, call);
     }
 
-    /// The call is refused with this code.
+    /// The call is refused with this code, which is none of the reader's.
     pub fn refuse(&mut self, code: u8, call: Call) {
         self.answer(code, 0, call);
     }
@@ -51,14 +52,22 @@ impl Case {
         self.script.extend(record);
     }
 
-    /// Bytes that end the sheet with code 1, 2 or 3.
+    /// Bytes that end the sheet with code 2 or 3.
     pub fn malformed(&mut self, code: u8, bytes: &[u8]) {
         self.line(code, 0, 0, &[]);
         self.script.extend(bytes);
     }
 
-    /// Adds a line to the sheet.
+    /// Bytes that end the sheet with code 1: so many more finish the field inside
+    /// which they end.
+    pub fn cut(&mut self, missing: usize, bytes: &[u8]) {
+        self.line(1, missing as u64, 0, &[]);
+        self.script.extend(bytes);
+    }
+
+    /// Adds a line to the sheet. 1 is the only refusal with a number other than 0.
     pub fn line(&mut self, code: u8, number: u64, used: usize, shown: &[u8]) {
+        assert!(code == 0 || (code == 1) == (number != 0), "{}: {code} {number}", self.name);
         if let Some(sheet) = &mut self.sheet {
             write!(sheet, "{code} {number} {used} ").expect("a String takes all that is written");
             if shown.is_empty() {

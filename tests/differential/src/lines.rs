@@ -1,8 +1,11 @@
 //! The lines of a sheet, each beside its record.
 
+use std::str::FromStr;
+
 /// A line of a sheet, without the header.
 pub struct Line<'a> {
     pub code: usize,
+    pub number: u64,
     /// Record bytes used.
     pub used: usize,
     /// The script from the line's record on.
@@ -22,15 +25,16 @@ pub fn lines<'a>(script: &'a [u8], sheet: &'a [u8]) -> impl Iterator<Item = Line
     let texts = sheet.split(|&byte| byte == b'\n').skip(1).filter(|line| !line.is_empty());
     texts.map(move |text| {
         let mut fields = text.split(|&byte| byte == b' ');
-        let (code, used) = (field(fields.next()), field(fields.nth(1)));
-        let line = Line { code, used, script: rest };
+        let (code, number) = (field(fields.next()), field(fields.next()));
+        let used = field(fields.next());
+        let line = Line { code, number, used, script: rest };
         rest = &rest[used..];
         line
     })
 }
 
 /// A decimal field of a line.
-fn field(digits: Option<&[u8]>) -> usize {
+fn field<N: FromStr>(digits: Option<&[u8]>) -> N {
     let digits = digits.and_then(|digits| std::str::from_utf8(digits).ok());
     digits.and_then(|digits| digits.parse().ok()).expect("a line has its fields")
 }

@@ -15,7 +15,7 @@ use crate::records::{self, Known};
 use crate::style::{Style, STYLES};
 
 /// A script and the sound box that it leads to, but for its last records: up to
-/// three of them may be anything, malformed too.
+/// four of them may be anything, malformed and cut too.
 pub struct Played {
     pub script: Vec<u8>,
     pub host: Host,
@@ -39,6 +39,9 @@ pub fn play(seed: u64) -> Played {
     }
     if random.once_in(3) {
         script.extend(records::retired(&mut random));
+    }
+    if random.once_in(2) {
+        script.extend(records::cut(&mut random, &Known::of(&host)));
     }
     Played { script, host }
 }

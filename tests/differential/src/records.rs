@@ -121,9 +121,22 @@ pub fn malformed(random: &mut Random, known: &Known) -> Vec<u8> {
         1 => record[1] = random.byte(),
         2 => record[0] = random.byte(),
         3 => record = retired(random),
-        _ => record.truncate(random.index(record.len())),
+        _ => shorten(random, &mut record),
     }
     record
+}
+
+/// A whole record cut anywhere, perhaps to no byte.
+pub fn cut(random: &mut Random, known: &Known) -> Vec<u8> {
+    let mut record = whole(random, known);
+    shorten(random, &mut record);
+    record
+}
+
+/// Half of the time within the first 25 bytes, so that every field is cut often.
+fn shorten(random: &mut Random, record: &mut Vec<u8>) {
+    let most = if random.once_in(2) { record.len() } else { record.len().min(25) };
+    record.truncate(random.index(most));
 }
 
 /// A start or a yield as it once was, kind 2 or 3 with its old map, or a start
@@ -172,6 +185,7 @@ pub fn output_size(random: &mut Random) -> usize {
 #[cfg(test)]
 mod tests {
     use super::*;
+    use crate::cuts::missing;
     use second::{read, Refusal};
 
     /// Whole records read whole; the others meet each of the reader's refusals.
@@ -187,9 +201,28 @@ mod tests {
             refused.extend(read(&noise(&mut random)).err());
             refused.extend(read(&any(&mut random, &known)).err());
         }
-        for refusal in [Refusal::Cut, Refusal::UnknownKind, Refusal::WrongMap] {
-            assert!(refused.contains(&refusal));
+        assert!(refused.contains(&Refusal::UnknownKind) && refused.contains(&Refusal::WrongMap));
+        for missing in 1..=8 {
+            assert!(refused.contains(&Refusal::Cut { missing }), "{missing}");
         }
+    }
+
+    /// Cut anywhere, a whole record is 1 with what document 01's widths say that
+    /// it misses.
+    #[test]
+    fn cut_records_miss_what_the_widths_say() {
+        let mut random = Random::new(4);
+        let mut counts = [0; 9];
+        for _ in 0..20_000 {
+            let whole = whole(&mut random, &Known::default());
+            let mut record = whole.clone();
+            shorten(&mut random, &mut record);
+            let missing = missing(&whole, record.len());
+            assert_eq!(read(&record), Err(Refusal::Cut { missing }), "{record:02x?}");
+            counts[missing.min(9) - 1] += 1;
+        }
+        println!("{counts:?}");
+        assert!(counts.iter().all(|&count| count > 100), "{counts:?}");
     }
 
     /// Hand overs name every place, 16, and places above it; kinds 2 and 3 come,

@@ -10,7 +10,7 @@ const REFUSED: Answer = Answer { code: 15, number: 0, used: 0, shown: 0 };
 
 /// Malformed records, and good ones that would alter something.
 fn records() -> Vec<Vec<u8>> {
-    let bytes: [&[u8]; 5] = [&[], &[2], &[1], &[3, 2, 0], &[1, 14]];
+    let bytes: [&[u8]; 6] = [&[], &[2], &[1], &[3, 2, 0], &[1, 14], &[7, 1, 0, 1]];
     let calls = [Call::Report, hand_over(NONE_RUNS), Call::Exit, create(9, 1), attest(1, 2)];
     let calls = calls.iter().map(record_of);
     bytes.iter().map(|bytes| bytes.to_vec()).chain(calls).collect()
@@ -160,8 +160,9 @@ fn refusal_15_is_given_exactly_then() {
         let unfit = size != OUTPUT_SIZE || !broken(&host).is_empty();
         let answer = host.call(&mut vec![0; size], &record);
         assert_eq!(answer.code == 15, unfit);
+        assert!(answer.code == 0 || (answer.code == 1) == (answer.number != 0), "{answer:?}");
         codes[usize::from(answer.code)] += 1;
     }
     println!("{codes:?}");
-    assert!(codes[0] > 100 && codes[15] > 100 && codes[5] == 0, "{codes:?}");
+    assert!(codes[0] > 100 && codes[1] > 50 && codes[15] > 100 && codes[5] == 0, "{codes:?}");
 }

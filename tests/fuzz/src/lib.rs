@@ -1,6 +1,6 @@
 //! One input of the fuzzer: a box, alterations of it, and records. The proved
-//! box and `second` must agree after each call, and never answer 5, which is
-//! retired.
+//! box and `second` must agree after each call, in the number too, and never
+//! answer 5, which is retired. What a cut record misses is tried out.
 
 #![deny(unsafe_op_in_unsafe_fn)]
 
@@ -118,10 +118,36 @@ fn calls(sides: &mut Sides, mut rest: &[u8]) {
         if let Ok((call, used)) = read(rest) {
             writings(&call, &rest[..used]);
         }
+        if answer.code == 1 {
+            missing(sides, rest, answer.number as usize);
+        }
         if answer.used == 0 {
             return;
         }
         rest = &rest[answer.used..];
+    }
+}
+
+/// One byte fewer than is missing leaves one missing. As many as are missing
+/// finish the field: where 1 comes again it is for a later one, of which the next
+/// byte leaves one fewer missing.
+fn missing(sides: &Sides, record: &[u8], missing: usize) {
+    let mut sides = sides.clone();
+    let filler = record.last().copied().unwrap_or(1);
+    let mut longer = record.to_vec();
+    let mut call = |record: &[u8]| {
+        let answer = sides.call(record);
+        answer.unwrap_or_else(|message| panic!("{message}: {record:02x?}"))
+    };
+    longer.resize(record.len() + missing - 1, filler);
+    let answer = call(&longer);
+    assert_eq!((answer.code, answer.number), (1, 1), "{missing} missing: {record:02x?}");
+    longer.push(filler);
+    let answer = call(&longer);
+    if answer.code == 1 && answer.number > 1 {
+        longer.push(filler);
+        let next = call(&longer);
+        assert_eq!((next.code, next.number), (1, answer.number - 1), "{longer:02x?}");
     }
 }
 

@@ -1,4 +1,5 @@
-//! Refusals through the header. Each alters nothing.
+//! Refusals through the header. Each alters nothing. A cut record gets how many
+//! bytes finish the field being read, every other refusal number 0.
 
 use interface::{write, Buffer, Fields, Host, Tally, Written};
 
@@ -10,16 +11,37 @@ pub fn check(tally: &mut Tally) {
     sizes(tally);
     damaged(tally);
     records(tally);
+    cut_records(tally);
+    cut_contents(tally);
+    finished(tally);
     writer(tally);
 }
 
-/// The call has this code, number 0, so many bytes used and none shown.
+/// The call has this code, which isn't 1, number 0, so many bytes used and none
+/// shown.
 fn refused(tally: &mut Tally, what: &str, host: &mut Host, record: &[u8], wanted: (u8, usize)) {
+    answered(tally, what, host, record, (wanted.0, 0, wanted.1));
+}
+
+/// The call has code 1, so many bytes missing, none used and none shown.
+fn cut(tally: &mut Tally, what: &str, host: &mut Host, record: &[u8], missing: u64) {
+    answered(tally, what, host, record, (1, missing, 0));
+}
+
+/// The call has this code, number and count of bytes used, shows nothing and
+/// alters nothing.
+fn answered(
+    tally: &mut Tally,
+    what: &str,
+    host: &mut Host,
+    record: &[u8],
+    (code, number, used): (u8, u64, usize),
+) {
     let before = host.clone();
     let reply = host.call(record);
-    tally.check(reply.code == wanted.0, || format!("{what}: code {}", reply.code));
-    tally.check(reply.number == 0, || format!("{what}: number {}", reply.number));
-    tally.check(reply.used == wanted.1, || format!("{what}: used {}", reply.used));
+    tally.check(reply.code == code, || format!("{what}: code {}", reply.code));
+    tally.check(reply.number == number, || format!("{what}: number {}", reply.number));
+    tally.check(reply.used == used, || format!("{what}: used {}", reply.used));
     tally.check(reply.shown == 0, || format!("{what}: shown {}", reply.shown));
     tally.check(*host == before, || format!("{what}: something was altered"));
 }
@@ -57,8 +79,6 @@ fn damaged(tally: &mut Tally) {
 
 fn records(tally: &mut Tally) {
     let mut host = after_example();
-    refused(tally, "no record", &mut host, &[], (1, 0));
-    refused(tally, "no kind byte", &mut host, &[0x01], (1, 0));
     refused(tally, "no kind", &mut host, &[0x02], (2, 0));
     refused(tally, "kind 15", &mut host, &[0x01, 0x0F], (2, 0));
     refused(tally, "kind 2, retired", &mut host, &[0x03, 0x02, 0], (2, 0));
@@ -66,10 +86,74 @@ fn records(tally: &mut Tally) {
     refused(tally, "kind 3, retired", &mut host, &[0x01, 0x03], (2, 0));
     refused(tally, "another map", &mut host, &[0x03, 0x0D, 0], (3, 0));
     refused(tally, "hand over with another map", &mut host, &[0x01, 0x0E], (3, 0));
-    refused(tally, "hand over cut", &mut host, &[0x03, 0x0E], (1, 0));
+    refused(tally, "a cut record with another map", &mut host, &[0x4B, 0x07, 0], (3, 0));
+    refused(tally, "a cut record of kind 0", &mut host, &[0x07, 0], (2, 0));
     refused(tally, "exit while none runs", &mut host, &[0x01, 0x04, 0xFF], (4, 2));
     refused(tally, "hand over to 17", &mut host, &[0x03, 0x0E, 17], (6, 3));
     refused(tally, "hand over to an empty place", &mut host, &[0x03, 0x0E, 1], (7, 3));
+}
+
+/// What each record misses, cut at every byte from no byte of it on.
+fn cut_records(tally: &mut Tally) {
+    let create = b"\x07\x01\x03\x09\xFF\xFF\xFF\xFF\xFF\xFF\xFF";
+    let hand_over = b"\x03\x0E\x00";
+    let heap_read = b"\x1B\x06\x00\x00\x00\xFF\xFF";
+    let shared_write = b"\x49\x07\x00\x00\x04\x00abcd";
+    let check = b"\x65\x0A\x01\0\0\0\0\0\0\0\x1F\xA2\xF5\x8F\xDC\x6D\x9A\x52\x01\x00A";
+    let protect = b"\x3D\x0B\x01\0\0\0\0\0\0\0\x00\x00\x01\x00\x07\0\0\0\0\0\0\0";
+    let records: [(&str, &[u8], &[u64]); 7] = [
+        ("create", create, &[1, 1, 1, 8, 7, 6, 5, 4, 3, 2, 1]),
+        ("hand over", hand_over, &[1, 1, 1]),
+        ("report", REPORT, &[1, 1]),
+        ("heap read", heap_read, &[1, 1, 1, 2, 1, 2, 1]),
+        ("shared write", shared_write, &[1, 1, 2, 1, 2, 1, 4, 3, 2, 1]),
+        ("check", check, &[1, 1, 8, 7, 6, 5, 4, 3, 2, 1, 8, 7, 6, 5, 4, 3, 2, 1, 2, 1, 1]),
+        ("protect", protect, &[1, 1, 8, 7, 6, 5, 4, 3, 2, 1, 2, 1, 2, 1, 8, 7, 6, 5, 4, 3, 2, 1]),
+    ];
+    for (name, record, missing) in records {
+        tally.check(missing.len() == record.len(), || format!("{name}: as many as its bytes"));
+        let mut host = after_example();
+        for (end, missing) in missing.iter().enumerate() {
+            cut(tally, &format!("{name} cut at {end}"), &mut host, &record[..end], *missing);
+        }
+    }
+}
+
+/// A heap write of many bytes. Its count is read before its contents.
+fn cut_contents(tally: &mut Tally) {
+    let mut host = after_example();
+    let cuts: [(u16, usize, u64); 8] = [
+        (1, 0, 1),
+        (256, 0, 256),
+        (256, 1, 255),
+        (256, 255, 1),
+        (257, 1, 256),
+        (65_535, 0, 65_535),
+        (65_535, 255, 65_280),
+        (65_535, 65_534, 1),
+    ];
+    for (count, there, missing) in cuts {
+        let mut record = vec![0x4B, 0x05, 0, 0, 0];
+        record.extend(count.to_le_bytes());
+        record.resize(7 + there, 0xFF);
+        cut(tally, &format!("{there} of {count} bytes"), &mut host, &record, missing);
+    }
+}
+
+/// Two bytes are missing: one leaves one missing, two finish the field, whatever
+/// they are.
+fn finished(tally: &mut Tally) {
+    let mut host = after_example();
+    let offset = [0x1B, 0x06, 0];
+    for byte in [0x00, 0x01, 0xFF] {
+        cut(tally, "an offset", &mut host, &offset, 2);
+        let one = [&offset[..], &[byte]].concat();
+        cut(tally, "an offset's second byte", &mut host, &one, 1);
+        let two = [&offset[..], &[byte; 2]].concat();
+        cut(tally, "a length behind an offset", &mut host, &two, 2);
+        let whole = [&offset[..], &[byte; 4]].concat();
+        refused(tally, "a heap read while none runs", &mut host, &whole, (4, 7));
+    }
 }
 
 fn writer(tally: &mut Tally) {

@@ -219,7 +219,8 @@ impl Sides {
     }
 
     /// One call on both sides: the answer, or what was not the same. A refusal
-    /// is held to have altered nothing, and none to be 5, which is retired.
+    /// is held to have altered nothing, 1 to have a number other than 0 and the
+    /// others to have 0, and none to be 5, which is retired.
     pub fn call(&mut self, record: &[u8]) -> Result<Answer, String> {
         let wanted = self.second.call(&mut self.output, record);
         let before = (wanted.code != 0).then(|| self.host.clone());
@@ -234,6 +235,9 @@ impl Sides {
         }
         if before.map_or(false, |before| before != self.host) {
             return Err(format!("refusal {code} altered something"));
+        }
+        if code != 0 && (code == 1) != (number != 0) {
+            return Err(format!("refusal {code} with number {number}"));
         }
         if code == 5 {
             return Err("refusal 5, which is retired".into());

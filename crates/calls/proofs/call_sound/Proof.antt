@@ -20,6 +20,12 @@ carry-out-requires c κs = (c .before .before .before .before .before .before .b
 with-used-requires : tie.Need-with-used-requires
 with-used-requires c κs = search needs
 
+enum-known-missing : tie.Need-enum-known-missing
+enum-known-missing c = search needs
+
+refuse-cut-requires : tie.Need-refuse-cut-requires
+refuse-cut-requires c κs = search needs
+
 enum-told : tie.Need-enum-told
 enum-told c = search needs
 
@@ -31,12 +37,6 @@ enum-told-2 c = search needs
 
 refuse-requires-2 : tie.Need-refuse-requires-2
 refuse-requires-2 c κs = search needs
-
-enum-told-3 : tie.Need-enum-told-3
-enum-told-3 c = search needs
-
-refuse-requires-3 : tie.Need-refuse-requires-3
-refuse-requires-3 c κs = search needs
 
 same-length : tie.Need-same-length
 same-length c = search needs
@@ -58,15 +58,15 @@ returns c = let carried = c .before .before .before .before .before .before .bef
 
 returns-2 : tie.Need-returns-2
 unfolding readingIn cut
-returns-2 c = nothing-put (c .refuse .ensures) (refused-read (c .before .before .before .before .before .before .before .before .before .before .pre) _ _ 1 (rw (c .before .enum-told .given .1) at (sym (c .before .before .before .read-call .ensures .0))))
+returns-2 c = nothing-put (c .refuse-cut .ensures) (refused-read (c .before .before .before .before .before .before .before .before .before .before .before .pre) _ _ 1 _ (rw (c .before .before .missing .given .1) at (sym (c .before .before .before .before .read-call .ensures .0))))
 
 returns-3 : tie.Need-returns-3
 unfolding readingIn unknown
-returns-3 c = nothing-put (c .refuse2 .ensures) (refused-read (c .before .before .before .before .before .before .before .before .before .before .pre) _ _ 2 (rw (c .before .enum-told2 .given .1) at (sym (c .before .before .before .read-call .ensures .0))))
+returns-3 c = nothing-put (c .refuse .ensures) (refused-read (c .before .before .before .before .before .before .before .before .before .before .pre) _ _ 2 0 (rw (c .before .enum-told .given .1) at (sym (c .before .before .before .read-call .ensures .0))))
 
 returns-4 : tie.Need-returns-4
 unfolding readingIn wrongMap
-returns-4 c = nothing-put (c .refuse3 .ensures) (refused-read (c .before .before .before .before .before .before .before .before .before .before .pre) _ _ 3 (rw (c .before .enum-told3 .given .1) at (sym (c .before .before .before .read-call .ensures .0))))
+returns-4 c = nothing-put (c .refuse2 .ensures) (refused-read (c .before .before .before .before .before .before .before .before .before .before .pre) _ _ 3 0 (rw (c .before .enum-told2 .given .1) at (sym (c .before .before .before .read-call .ensures .0))))
 
 pub call-sound-spec : {M : Type 1} → statement M
 call-sound-spec =
@@ -76,12 +76,12 @@ call-sound-spec =
     enum-known-call
     carry-out-requires
     with-used-requires
+    enum-known-missing
+    refuse-cut-requires
     enum-told
     refuse-requires
     enum-told-2
     refuse-requires-2
-    enum-told-3
-    refuse-requires-3
     same-length
     same-length-2
     same-length-3

@@ -12,8 +12,11 @@ returns c =
     let a = c .before .before .args in
     (rw (not-true (a .here) (c .if1 .taken)), (zero-below (a .width), omega arith))
 
-sub-if2 : tie.Need-sub-if2
-sub-if2 c = search needs
+sub-there : tie.Need-sub-there
+sub-there c = search needs
+
+sub-t8 : tie.Need-sub-t8
+sub-t8 c = search needs
 
 returns-2 : tie.Need-returns-2
 unfolding takenIn fieldAt TakenWithin
@@ -24,8 +27,8 @@ returns-2 c =
 number-at-requires : tie.Need-number-at-requires
 number-at-requires c κs = search needs
 
-add-t6 : tie.Need-add-t6
-add-t6 c = search needs
+add-t7 : tie.Need-add-t7
+add-t7 c = search needs
 
 returns-3 : tie.Need-returns-3
 unfolding takenIn fieldAt TakenWithin
@@ -36,4 +39,4 @@ returns-3 c =
     )
 
 pub field-at-spec : {M : Type 1} → statement M
-field-at-spec = tie.close (tie.spec returns sub-if2 returns-2 number-at-requires add-t6 returns-3)
+field-at-spec = tie.close (tie.spec returns sub-there sub-t8 returns-2 number-at-requires add-t7 returns-3)

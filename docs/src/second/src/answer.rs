@@ -1,57 +1,83 @@
-//! Answers and the numbers of the refusals.
+//! Answers, and the codes and numbers of the refusals.
 
-/// Why a call, a record, a script or a writing was refused. The value of each
-/// case is its number in document 01. 5, that one already runs, is retired
-/// since hand over (document 02, P1): no case has it, and the number stays
-/// reserved.
+/// Why a call, a record, a script or a writing was refused. Each case has its
+/// code in document 01. 5, that one already runs, is retired since hand over
+/// (document 02, P1): no case has it, and the code stays reserved.
 #[derive(Clone, Copy, Debug, PartialEq, Eq)]
-#[repr(u8)]
 pub enum Refusal {
-    /// The record ends before a field does, or is empty.
-    Cut = 1,
+    /// The record ends before a field does, or is empty. So many more bytes
+    /// finish the field being read (document 02, P2), never 0.
+    Cut { missing: usize },
     /// Map bit 0 is down, or the kind is unknown.
-    UnknownKind = 2,
+    UnknownKind,
     /// The map isn't the kind's.
-    WrongMap = 3,
+    WrongMap,
     /// None runs.
-    NoneRuns = 4,
+    NoneRuns,
     /// The place is above 15, in a hand over above 16.
-    NoSuchPlace = 6,
+    NoSuchPlace,
     /// The place is taken (create) or empty (hand over).
-    PlaceTakenOrEmpty = 7,
+    PlaceTakenOrEmpty,
     /// The place isn't the running one.
-    NotRunning = 8,
+    NotRunning,
     /// The identity is 0.
-    ZeroIdentity = 9,
+    ZeroIdentity,
     /// No such escrow row.
-    NoSuchRow = 10,
+    NoSuchRow,
     /// Offset + length is beyond the heap or the shared memory.
-    Beyond = 11,
+    Beyond,
     /// The draw is 2^48 or more.
-    DrawTooLarge = 12,
+    DrawTooLarge,
     /// The log has no room.
-    LogFull = 13,
+    LogFull,
     /// The escrow has no room.
-    EscrowFull = 14,
+    EscrowFull,
     /// A lent buffer isn't of its size, or the box isn't sound.
-    Unsound = 15,
+    Unsound,
     /// The script is too long.
-    ScriptTooLong = 16,
+    ScriptTooLong,
     /// The writer's buffer is too short, or its bytes are too many.
-    CannotWrite = 17,
+    CannotWrite,
 }
 
 impl Refusal {
     pub const fn code(self) -> u8 {
-        self as u8
+        match self {
+            Refusal::Cut { .. } => 1,
+            Refusal::UnknownKind => 2,
+            Refusal::WrongMap => 3,
+            Refusal::NoneRuns => 4,
+            Refusal::NoSuchPlace => 6,
+            Refusal::PlaceTakenOrEmpty => 7,
+            Refusal::NotRunning => 8,
+            Refusal::ZeroIdentity => 9,
+            Refusal::NoSuchRow => 10,
+            Refusal::Beyond => 11,
+            Refusal::DrawTooLarge => 12,
+            Refusal::LogFull => 13,
+            Refusal::EscrowFull => 14,
+            Refusal::Unsound => 15,
+            Refusal::ScriptTooLong => 16,
+            Refusal::CannotWrite => 17,
+        }
+    }
+
+    /// The answer's number: what a cut record misses, and 0 with every other
+    /// refusal.
+    pub const fn number(self) -> u64 {
+        match self {
+            Refusal::Cut { missing } => missing as u64,
+            _ => 0,
+        }
     }
 }
 
 /// The answer to a call.
 #[derive(Clone, Copy, Debug, Default, PartialEq, Eq)]
 pub struct Answer {
-    /// 0 or the number of a refusal.
+    /// 0 or the code of a refusal.
     pub code: u8,
+    /// What an accepted call tells, or the refusal's number.
     pub number: u64,
     /// Record bytes used.
     pub used: usize,
@@ -60,21 +86,22 @@ pub struct Answer {
 }
 
 impl Answer {
-    /// A refusal has number 0 and shows nothing.
+    /// A refusal has its own number and shows nothing.
     pub const fn refused(refusal: Refusal, used: usize) -> Self {
-        Answer { code: refusal.code(), number: 0, used, shown: 0 }
+        Answer { code: refusal.code(), number: refusal.number(), used, shown: 0 }
     }
 }
 
 #[cfg(test)]
 mod tests {
+    use super::Answer;
     use super::Refusal::{self, *};
 
-    /// The number that the documents give. A refusal more does not compile before it
+    /// The code that the documents give. A refusal more does not compile before it
     /// has its line here.
     fn documented(refusal: Refusal) -> u8 {
         match refusal {
-            Cut => 1,
+            Cut { .. } => 1,
             UnknownKind => 2,
             WrongMap => 3,
             NoneRuns => 4,
@@ -93,29 +120,46 @@ mod tests {
         }
     }
 
-    /// The numbers as the documents give them; 5 is not among them.
+    const REFUSALS: [Refusal; 16] = [
+        Cut { missing: 7 },
+        UnknownKind,
+        WrongMap,
+        NoneRuns,
+        NoSuchPlace,
+        PlaceTakenOrEmpty,
+        NotRunning,
+        ZeroIdentity,
+        NoSuchRow,
+        Beyond,
+        DrawTooLarge,
+        LogFull,
+        EscrowFull,
+        Unsound,
+        ScriptTooLong,
+        CannotWrite,
+    ];
+
+    /// The codes as the documents give them; 5 is not among them.
+    #[test]
+    fn codes() {
+        let codes = (1..=17).filter(|&code| code != 5);
+        assert!(REFUSALS.iter().map(|refusal| refusal.code()).eq(codes));
+        assert!(REFUSALS.iter().all(|&refusal| refusal.code() == documented(refusal)));
+    }
+
+    /// 1 is the only refusal with a number other than 0.
     #[test]
     fn numbers() {
-        let refusals = [
-            Cut,
-            UnknownKind,
-            WrongMap,
-            NoneRuns,
-            NoSuchPlace,
-            PlaceTakenOrEmpty,
-            NotRunning,
-            ZeroIdentity,
-            NoSuchRow,
-            Beyond,
-            DrawTooLarge,
-            LogFull,
-            EscrowFull,
-            Unsound,
-            ScriptTooLong,
-            CannotWrite,
-        ];
-        let numbers = (1..=17).filter(|&number| number != 5);
-        assert!(refusals.iter().map(|refusal| refusal.code()).eq(numbers));
-        assert!(refusals.iter().all(|&refusal| refusal.code() == documented(refusal)));
+        for refusal in REFUSALS {
+            let code = refusal.code();
+            let number = if code == 1 { 7 } else { 0 };
+            for used in [0, 22] {
+                let wanted = Answer { code, number, used, shown: 0 };
+                assert_eq!(Answer::refused(refusal, used), wanted);
+            }
+        }
+        for missing in [1, 2, 8, 255, 256, 65_535] {
+            assert_eq!(Cut { missing }.number(), missing as u64);
+        }
     }
 }

@@ -1,6 +1,6 @@
-//! The box of document 01, amended by request P1 of document 02: places with
-//! heaps, shared memory, a log and an escrow, worked by twelve calls. A second
-//! program, written from those documents alone.
+//! The box of document 01, amended by requests P1 and P2 of document 02: places
+//! with heaps, shared memory, a log and an escrow, worked by twelve calls. A
+//! second program, written from those documents alone.
 
 #![forbid(unsafe_code)]
 

@@ -194,16 +194,22 @@ impl<'a> Call<'a> {
 struct Rest<'a>(&'a [u8]);
 
 impl<'a> Rest<'a> {
-    /// The next `count` bytes, or refusal 1.
-    fn take(&mut self, count: usize) -> Result<&'a [u8], Refusal> {
-        let taken = self.0.get(..count).ok_or(Refusal::Cut)?;
-        self.0 = &self.0[count..];
-        Ok(taken)
+    /// The next field, of `width` bytes, or refusal 1 with those that it lacks.
+    fn take(&mut self, width: usize) -> Result<&'a [u8], Refusal> {
+        let there = self.0.len();
+        if there < width {
+            return Err(Refusal::Cut { missing: width - there });
+        }
+        let (field, behind) = self.0.split_at(width);
+        self.0 = behind;
+        Ok(field)
     }
 
-    /// The next `N` bytes as an array, or refusal 1.
+    /// The next field as an array of `N` bytes, or refusal 1.
     fn array<const N: usize>(&mut self) -> Result<[u8; N], Refusal> {
-        self.take(N)?.try_into().map_err(|_| Refusal::Cut)
+        let mut field = [0; N];
+        field.copy_from_slice(self.take(N)?);
+        Ok(field)
     }
 
     fn u8(&mut self) -> Result<u8, Refusal> {
@@ -220,7 +226,8 @@ impl<'a> Rest<'a> {
 }
 
 /// Reads the record at the front of `input`: the call and the record's length,
-/// or refusal 1, 2 or 3. What follows the record doesn't matter.
+/// or refusal 1, 2 or 3. What follows the record doesn't matter. The count of
+/// the bytes and their contents are two fields.
 pub fn read(input: &[u8]) -> Result<(Call<'_>, usize), Refusal> {
     let mut rest = Rest(input);
     let map = rest.u8()?;
@@ -256,7 +263,7 @@ pub fn read(input: &[u8]) -> Result<(Call<'_>, usize), Refusal> {
     Ok((Call::from_parts(kind, &fields, bytes), used))
 }
 
-/// What the writer gives: 0 and the record's length, or a refusal's number and
+/// What the writer gives: 0 and the record's length, or a refusal's code and
 /// length 0.
 #[derive(Clone, Copy, Debug, PartialEq, Eq)]
 pub struct Written {
@@ -385,6 +392,156 @@ mod tests {
         b"\x03\x0E\x11",
     ];
 
+    /// The widths of the samples' fields, from the document's table: map 1, kind
+    /// 1, place 1, identity 8, offset 2, length 2, number 8, the count of the
+    /// bytes 2, their contents 3.
+    const WIDTHS: [&[usize]; 12] = [
+        &[1, 1, 1, 8],
+        &[1, 1],
+        &[1, 1, 1, 2, 2, 3],
+        &[1, 1, 1, 2, 2],
+        &[1, 1, 2, 2, 3],
+        &[1, 1, 2, 2],
+        &[1, 1, 2, 2],
+        &[1, 1, 8, 8, 2, 3],
+        &[1, 1, 8, 2, 2, 8],
+        &[1, 1, 8, 2, 8],
+        &[1, 1],
+        &[1, 1, 1],
+    ];
+
+    /// What each sample misses when it is cut, from no byte of it on: a word for
+    /// a field, a digit for a byte.
+    const MISSING: [&str; 12] = [
+        "1 1 1 87654321",
+        "1 1",
+        "1 1 1 21 21 321",
+        "1 1 1 21 21",
+        "1 1 21 21 321",
+        "1 1 21 21",
+        "1 1 21 21",
+        "1 1 87654321 87654321 21 321",
+        "1 1 87654321 21 21 87654321",
+        "1 1 87654321 21 87654321",
+        "1 1",
+        "1 1 1",
+    ];
+
+    fn widths_of(kind: u8) -> Option<&'static [usize]> {
+        MAPS.iter().zip(WIDTHS).find(|((number, _), _)| *number == kind).map(|(_, widths)| widths)
+    }
+
+    /// What the reader gives where the field being read misses so many bytes.
+    fn cut(missing: usize) -> Result<(Call<'static>, usize), Refusal> {
+        Err(Refusal::Cut { missing })
+    }
+
+    /// The sample with every byte behind the kind made `fill`, its count of bytes
+    /// aside.
+    fn filled(record: &[u8], fill: u8) -> Vec<u8> {
+        let mut filled = record.to_vec();
+        filled[2..].fill(fill);
+        if record[0] & 0x40 != 0 {
+            let count = record.len() - 5;
+            filled[count..count + 2].copy_from_slice(&[3, 0]);
+        }
+        filled
+    }
+
+    #[test]
+    fn widths_and_missing_agree() {
+        for ((record, widths), words) in RECORDS.iter().zip(WIDTHS).zip(MISSING) {
+            assert!(words.split(' ').map(str::len).eq(widths.iter().copied()));
+            assert_eq!(widths.iter().sum::<usize>(), record.len());
+        }
+    }
+
+    /// Every field of every kind cut at every byte, whatever stands in the fields.
+    #[test]
+    fn cut_at_every_byte() {
+        for (record, words) in RECORDS.iter().zip(MISSING) {
+            let fillings = [0x00, 0x01, 0x7F, 0xFF].map(|fill| filled(record, fill));
+            for record in fillings.iter().map(Vec::as_slice).chain([*record]) {
+                let digits = words.bytes().filter(u8::is_ascii_digit);
+                for (end, digit) in digits.enumerate() {
+                    assert_eq!(read(&record[..end]), cut(usize::from(digit - b'0')));
+                }
+                assert_eq!(read(record).unwrap().1, record.len());
+            }
+        }
+    }
+
+    /// Contents cut at every byte. A count of 0 leaves nothing to cut.
+    #[test]
+    fn contents_cut_at_every_byte() {
+        let fronts: [&[u8]; 3] = [&[0x4B, 5, 0, 0, 0], &[0x49, 7, 0, 0], &[0x65, 10]];
+        for front in fronts {
+            let mut front = front.to_vec();
+            if front[1] == 10 {
+                front.extend([0; 16]);
+            }
+            for count in [0u16, 1, 2, 3, 8, 255, 256, 257, 300, 65_280, 65_535] {
+                let [low, high] = count.to_le_bytes();
+                let whole = [&front[..], &[low, high], &vec![0xFF; usize::from(count)]].concat();
+                let contents = front.len() + 2;
+                assert_eq!(read(&whole[..front.len()]), cut(2));
+                assert_eq!(read(&whole[..front.len() + 1]), cut(1));
+                for there in 0..usize::from(count) {
+                    assert_eq!(read(&whole[..contents + there]), cut(usize::from(count) - there));
+                }
+                assert_eq!(read(&whole).unwrap().1, whole.len());
+            }
+        }
+    }
+
+    /// Any fewer bytes than are missing leave as many fewer missing; as many as
+    /// are missing finish the field, whatever they are.
+    #[test]
+    fn missing_bytes_finish_the_field() {
+        for (record, widths) in RECORDS.iter().zip(WIDTHS) {
+            let mut first = 0;
+            for (field, width) in widths.iter().enumerate() {
+                for there in 0..*width {
+                    for filler in [0x00, 0x01, 0x03, 0x0D, 0x19, 0xFF] {
+                        let mut longer = record[..first + there].to_vec();
+                        for missing in (1..=width - there).rev() {
+                            assert_eq!(read(&longer), cut(missing));
+                            longer.push(filler);
+                        }
+                        field_is_read(&longer, field, widths);
+                    }
+                }
+                first += width;
+            }
+        }
+    }
+
+    /// The record ends with this field: the reader asks for the next one, gives
+    /// 2 or 3, or reads a call where there is none.
+    fn field_is_read(record: &[u8], field: usize, widths: &[usize]) {
+        let mut widths = widths.to_vec();
+        if field == 0 {
+            let expected = if record[0] & 1 == 0 { Err(Refusal::UnknownKind) } else { cut(1) };
+            return assert_eq!(read(record), expected);
+        }
+        if field == 1 {
+            widths = match (legal_map(record[1]), widths_of(record[1])) {
+                (Some(map), Some(widths)) if map == record[0] => widths.to_vec(),
+                (Some(_), _) => return assert_eq!(read(record), Err(Refusal::WrongMap)),
+                _ => return assert_eq!(read(record), Err(Refusal::UnknownKind)),
+            };
+        }
+        let is_count = record[0] & 0x40 != 0 && field + 2 == widths.len();
+        if is_count {
+            let count = &record[record.len() - 2..];
+            widths[field + 1] = usize::from(count[0]) + 256 * usize::from(count[1]);
+        }
+        match widths.get(field + 1) {
+            Some(&width) if width > 0 => assert_eq!(read(record), cut(width)),
+            _ => assert_eq!(read(record).unwrap().1, record.len()),
+        }
+    }
+
     #[test]
     fn reads_and_writes_each_kind() {
         for (n, (call, record)) in samples().iter().zip(RECORDS).enumerate() {
@@ -394,10 +551,6 @@ mod tests {
             let mut longer = record.to_vec();
             longer.extend([0xFF; 9]);
             assert_eq!(read(&longer), Ok((*call, record.len())));
-            // Cut anywhere, it is 1.
-            for end in 0..record.len() {
-                assert_eq!(read(&record[..end]), Err(Refusal::Cut));
-            }
             // Written into a longer buffer, one of the length, shorter ones.
             let mut buffer = [0xEE; 40];
             let length = record.len();
@@ -418,11 +571,11 @@ mod tests {
 
     #[test]
     fn reader_order_for_every_map_and_kind() {
-        assert_eq!(read(&[]), Err(Refusal::Cut));
+        assert_eq!(read(&[]), cut(1));
         for map in 0..=255 {
             let down = map & 1 == 0;
-            let expected = if down { Refusal::UnknownKind } else { Refusal::Cut };
-            assert_eq!(read(&[map]), Err(expected));
+            let expected = if down { Err(Refusal::UnknownKind) } else { cut(1) };
+            assert_eq!(read(&[map]), expected);
             for kind in 0..=255 {
                 let long = [&[map, kind][..], &[0; 40]].concat();
                 for record in [&long[..2], &long] {
@@ -432,7 +585,8 @@ mod tests {
                     } else if legal != Some(map) {
                         assert_eq!(read(record), Err(Refusal::WrongMap));
                     } else if map != 1 && record.len() == 2 {
-                        assert_eq!(read(record), Err(Refusal::Cut));
+                        let width = widths_of(kind).and_then(|widths| widths.get(2));
+                        assert_eq!(read(record), cut(*width.unwrap()));
                     } else {
                         let (call, used) = read(record).unwrap();
                         assert_eq!(call.parts().0.number(), kind);
@@ -515,7 +669,7 @@ mod tests {
             let written = write(kind, &Fields::default(), &bytes, &mut buffer);
             assert_eq!(written, Written { code: 0, length });
             assert_eq!(read(&buffer[..length]).unwrap().1, length);
-            assert_eq!(read(&buffer[..length - 1]), Err(Refusal::Cut));
+            assert_eq!(read(&buffer[..length - 1]), cut(1));
         }
     }
 }

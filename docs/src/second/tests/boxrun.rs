@@ -17,11 +17,14 @@ fn run(script: &[u8]) -> Vec<u8> {
 
 #[test]
 fn prints_the_sheet() {
-    let scripts: [&[u8]; 4] = [&[], &[1, 13], &[1], &[0x19, 8, 0, 0, 2, 0, 1, 4]];
+    let scripts: [&[u8]; 5] =
+        [&[], &[1, 13], &[1], &[0x19, 8, 0, 0, 2, 0, 1, 4], &[1, 13, 0x19, 8, 0, 0]];
     for script in scripts {
         assert_eq!(run(script), second::sheet(script));
     }
     assert_eq!(run(scripts[3]), b"code number used bytes\n0 2 6 0000\n4 0 2 -\n");
+    // Two bytes are missing.
+    assert_eq!(run(scripts[4]), b"code number used bytes\n0 0 2 -\n1 2 0 -\n");
 }
 
 #[test]

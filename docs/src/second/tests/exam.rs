@@ -1,5 +1,6 @@
-//! Document 01's exam cases, traps, boundaries and order of refusals, and the
-//! hand overs of document 02's P1, through the library's own doors.
+//! Document 01's exam cases, traps, boundaries and order of refusals, the hand
+//! overs of document 02's P1 and the missing bytes of its P2, through the
+//! library's own doors.
 
 use second::*;
 
@@ -14,7 +15,8 @@ fn record_of(call: &Call) -> Vec<u8> {
 }
 
 /// A host with its output buffer, which tests at each call what holds of all:
-/// the box stays sound, a refusal alters nothing, only reads touch the output.
+/// the box stays sound, a refusal alters nothing, 1 is the only refusal with a
+/// number other than 0 and never has 0, only reads touch the output.
 struct Bench {
     host: Host,
     output: Vec<u8>,
@@ -42,7 +44,7 @@ impl Bench {
         assert!(is_sound(&self.host.lend()));
         assert!(self.output[answer.shown..] == output[answer.shown..]);
         if answer.code != 0 {
-            assert_eq!((answer.number, answer.shown), (0, 0));
+            assert_eq!((answer.number != 0, answer.shown), (answer.code == 1, 0));
             assert!(self.host == host);
         }
         answer
@@ -147,9 +149,9 @@ fn i_retrieve_by_another_than_the_recipient() {
 #[test]
 fn j_short_records() {
     let mut bench = Bench::fresh();
-    assert_eq!(bench.raw(&[0x01]), Answer { code: 1, ..Answer::default() });
+    assert_eq!(bench.raw(&[0x01]), Answer { code: 1, number: 1, ..Answer::default() });
     assert_eq!(bench.raw(&[0x02]), Answer { code: 2, ..Answer::default() });
-    assert_eq!(bench.raw(&[]), Answer { code: 1, ..Answer::default() });
+    assert_eq!(bench.raw(&[]), Answer { code: 1, number: 1, ..Answer::default() });
 }
 
 #[test]
@@ -652,40 +654,76 @@ fn order_in_attest_protect_retrieve() {
 
 #[test]
 fn order_of_15_and_the_record() {
-    let records: [&[u8]; 6] = [&[], &[2], &[1], &[1, 15], &[3, 2, 0], &[1, 14]];
+    let unsound = Answer { code: 15, ..Answer::default() };
+    let records: [&[u8]; 7] = [&[], &[2], &[1], &[1, 15], &[3, 2, 0], &[1, 14], &[7, 1, 0, 1]];
     for record in records {
         let mut host = Host::fresh();
-        assert_eq!(host.call(&mut [0; 1_023], record).code, 15);
+        assert_eq!(host.call(&mut [0; 1_023], record), unsound);
         assert_ne!(host.call(&mut [0; 1_024], record).code, 15);
         host.record.running = 0;
-        assert_eq!(host.call(&mut [0; 1_024], record).code, 15);
+        assert_eq!(host.call(&mut [0; 1_024], record), unsound);
     }
-    // Kind before map, map before a cut field, the record before the call.
+}
+
+/// Kind before map, map before a cut field, the record before the call.
+#[test]
+fn order_in_the_record() {
     let mut bench = Bench::fresh();
-    let cases: [(u8, &[u8]); 18] = [
-        (1, &[]),
-        (2, &[0x00]),
-        (2, &[0x06, 1]),
-        (1, &[0xFF]),
-        (2, &[0xFF, 15]),
-        (2, &[0xFF, 0]),
-        (2, &[0x03, 2]),
-        (2, &[0x03, 2, 0]),
-        (2, &[0x01, 3]),
-        (2, &[0x81, 3]),
-        (3, &[0xFF, 1]),
-        (3, &[0xFF, 14]),
-        (3, &[0x01, 14]),
-        (3, &[0x81, 4]),
-        (1, &[0x07, 1]),
-        (1, &[0x03, 14]),
-        (1, &[0x4B, 5, 16, 0, 0, 1, 0]),
-        (4, &[0x4B, 5, 16, 0, 0, 1, 0, 9]),
+    let cases: [(u8, u64, &[u8]); 19] = [
+        (1, 1, &[]),
+        (2, 0, &[0x00]),
+        (2, 0, &[0x06, 1]),
+        (1, 1, &[0xFF]),
+        (2, 0, &[0xFF, 15]),
+        (2, 0, &[0xFF, 0]),
+        (2, 0, &[0x03, 2]),
+        (2, 0, &[0x03, 2, 0]),
+        (2, 0, &[0x01, 3]),
+        (2, 0, &[0x81, 3]),
+        (3, 0, &[0xFF, 1]),
+        (3, 0, &[0xFF, 14]),
+        (3, 0, &[0x01, 14]),
+        (3, 0, &[0x81, 4]),
+        (1, 1, &[0x07, 1]),
+        (1, 8, &[0x07, 1, 16]),
+        (1, 1, &[0x03, 14]),
+        (1, 1, &[0x4B, 5, 16, 0, 0, 1, 0]),
+        (4, 0, &[0x4B, 5, 16, 0, 0, 1, 0, 9]),
     ];
-    for (code, record) in cases {
+    for (code, number, record) in cases {
         let answer = bench.raw(record);
         let used = if code > 3 { record.len() } else { 0 };
-        assert_eq!(answer, Answer { code, used, ..Answer::default() });
+        assert_eq!(answer, Answer { code, number, used, shown: 0 });
+    }
+}
+
+/// A whole answer for a cut in each sort of field, on a box in use. `Bench`
+/// tests that nothing is altered.
+#[test]
+fn a_cut_record_tells_how_much_is_missing() {
+    let mut bench = Bench::busy();
+    bench.put(0, b"kept");
+    bench.accept(Call::Attest { offset: 0, length: 4 });
+    bench.protect(2, 0, 4, 7);
+    let cases: [(u64, &[u8]); 15] = [
+        (1, b""),
+        (1, b"\x65"),
+        (1, b"\x4B\x05"),
+        (8, b"\x07\x01\x05"),
+        (3, b"\x07\x01\x05\xFF\xFF\xFF\xFF\xFF"),
+        (2, b"\x1B\x06\x00"),
+        (1, b"\x1B\x06\x00\xFF"),
+        (2, b"\x19\x08\x00\x00"),
+        (1, b"\x19\x09\x00\x00\x04"),
+        (8, b"\x2D\x0C\x01\0\0\0\0\0\0\0\x00\x00"),
+        (6, b"\x3D\x0B\x02\0\0\0\0\0\0\0\x00\x00\x04\x00\x07\x00"),
+        (2, b"\x49\x07\x00\x00"),
+        (1, b"\x49\x07\x00\x00\xFF"),
+        (65_535, b"\x49\x07\x00\x00\xFF\xFF"),
+        (254, b"\x4B\x05\x00\x00\x00\x00\x01ab"),
+    ];
+    for (number, record) in cases {
+        assert_eq!(bench.raw(record), Answer { code: 1, number, used: 0, shown: 0 });
     }
 }
 
@@ -751,15 +789,17 @@ code number used bytes
 #[test]
 fn sheet_stops_after_1_2_and_3() {
     assert_eq!(sheet(&[]), HEADER);
-    let cases: [(&[u8], &str); 9] = [
-        (&[1, 13, 1], "0 0 2 -\n1 0 0 -\n"),
+    let cases: [(&[u8], &str); 11] = [
+        (&[1, 13, 1], "0 0 2 -\n1 1 0 -\n"),
+        (&[1, 13, 0x19, 8, 0, 0], "0 0 2 -\n1 2 0 -\n"),
+        (&[1, 13, 0x49, 7, 0, 0, 0, 1], "0 0 2 -\n1 256 0 -\n"),
         (&[1, 13, 2, 1, 13], "0 0 2 -\n2 0 0 -\n"),
         (&[1, 13, 1, 15, 1, 13], "0 0 2 -\n2 0 0 -\n"),
         (&[1, 13, 3, 2, 0, 1, 13], "0 0 2 -\n2 0 0 -\n"),
         (&[1, 13, 1, 3, 1, 13], "0 0 2 -\n2 0 0 -\n"),
         (&[1, 13, 3, 13, 1, 13], "0 0 2 -\n3 0 0 -\n"),
         (&[1, 13, 1, 14, 1, 13], "0 0 2 -\n3 0 0 -\n"),
-        (&[1, 13, 3, 14], "0 0 2 -\n1 0 0 -\n"),
+        (&[1, 13, 3, 14], "0 0 2 -\n1 1 0 -\n"),
         (&[1, 4, 3, 14, 16, 1, 13], "4 0 2 -\n0 0 3 -\n0 0 2 -\n"),
     ];
     for (script, lines) in cases {
@@ -783,7 +823,7 @@ fn scripts_at_the_limit() {
     let script: Vec<u8> = [1, 13].into_iter().cycle().take(65_537).collect();
     let header = "code number used bytes\n";
     let lines = |count| format!("{header}{}", "0 0 2 -\n".repeat(count));
-    assert_eq!(sheet_text(&script[..65_535]), lines(32_767) + "1 0 0 -\n");
+    assert_eq!(sheet_text(&script[..65_535]), lines(32_767) + "1 1 0 -\n");
     assert_eq!(sheet_text(&script[..65_536]), lines(32_768));
     assert_eq!(sheet_text(&script), format!("{header}16 0 0 -\n"));
     // Too long a script prints no other line, whatever it holds.
@@ -792,7 +832,8 @@ fn scripts_at_the_limit() {
     let write = record_of(&Call::SharedWrite { offset: 0, bytes: &[1; 65_530] });
     assert_eq!(write.len(), 65_536);
     assert_eq!(sheet_text(&write), format!("{header}11 0 65536 -\n"));
-    assert_eq!(sheet_text(&write[..65_535]), format!("{header}1 0 0 -\n"));
+    assert_eq!(sheet_text(&write[..65_535]), format!("{header}1 1 0 -\n"));
+    assert_eq!(sheet_text(&write[..6]), format!("{header}1 65530 0 -\n"));
 }
 
 // Random scripts: the sheet, which tests soundness once, says what call after

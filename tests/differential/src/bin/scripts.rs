@@ -14,13 +14,21 @@ use std::io::{self, ErrorKind, Write};
 use std::process::{Command, ExitCode, Stdio};
 use std::{env, thread};
 
-use differential::{cases, lines, play, Case, HandOvers};
+use differential::{cases, lines, play, Case, HandOvers, Missing};
 use second::{sheet, ROWS, VALUES_SIZE};
 
 const COUNT: u64 = 2_400;
 
 /// More hand overs of each sort than this are in the generated scripts.
 const HAND_OVERS: u64 = 100;
+
+/// More cut records that miss 1 to 8 bytes, of each sort, and that miss more are
+/// in the fixed cases, and in the generated scripts.
+const CUT_FIXED: u64 = 50;
+const CUT_GENERATED: u64 = 5;
+
+/// What some fixed cases miss, of more than 8 bytes.
+const MISSED: [u64; 6] = [255, 256, 257, 300, 535, 65_535];
 
 /// So many failures are printed in full.
 const PRINTED: u64 = 10;
@@ -41,6 +49,7 @@ fn main() -> ExitCode {
     for case in cases::all() {
         marker.compare(&program, &case);
     }
+    marker.cut_coverage();
     let mut generated = Generated::default();
     for seed in first..first.saturating_add(count) {
         generated.compare(&mut marker, &program, seed);
@@ -83,6 +92,10 @@ struct Marker {
     failed: u64,
     /// Lines with each code.
     codes: [u64; 18],
+    /// Lines with 1, by what the record misses.
+    missing: Missing,
+    /// Those of `MISSED` that were met.
+    missed: [bool; MISSED.len()],
     /// Lines with each code above 3, and accepted ones, for each kind byte.
     kinds: [[u64; 18]; 15],
 }
@@ -119,17 +132,22 @@ impl Marker {
         expected
     }
 
-    /// Counts the lines by code, and by the kind of the record where one was read.
+    /// Counts the lines by code, by the kind of the record where one was read, and
+    /// by what is missing where one was cut.
     fn count_lines(&mut self, script: &[u8], sheet: &[u8]) {
         for line in lines(script, sheet) {
             self.codes[line.code] += 1;
+            self.missing.add(line.code, line.number);
+            for (missed, number) in self.missed.iter_mut().zip(MISSED) {
+                *missed |= line.code == 1 && line.number == number;
+            }
             if let Some(record) = line.record() {
                 self.kinds[usize::from(record[1])][line.code] += 1;
             }
         }
     }
 
-    /// Every number that a sheet can show was met, and each kind met all its
+    /// Every code that a sheet can show was met, and each kind met all its
     /// refusals and no others.
     fn coverage(&mut self) {
         println!("refusal lines");
@@ -144,6 +162,9 @@ impl Marker {
             let met = self.codes[code] > 0;
             self.check(&format!("no line with {code}"), (!met).then_some(()).ok_or("some".into()));
         }
+        let right = self.missing.only_with_one();
+        let outcome = right.then_some(()).ok_or("another number".into());
+        self.check("1 is the only refusal with a number, and never has 0", outcome);
         for kind in [0, 2, 3] {
             let read = self.kinds[kind].iter().any(|&lines| lines > 0);
             let outcome = (!read).then_some(()).ok_or("some".into());
@@ -154,6 +175,18 @@ impl Marker {
             let all = met == refusals && self.kinds[kind][0] > 0;
             let outcome = if all { Ok(()) } else { Err(format!("met {met:?}")) };
             self.check(&format!("kind {kind}'s refusals {refusals:?}"), outcome);
+        }
+    }
+
+    /// Cut records missed each number of bytes. Before anything is generated.
+    fn cut_coverage(&mut self) {
+        println!("in fixed scripts, {}", self.missing);
+        let often = self.missing.each_above(CUT_FIXED);
+        let outcome = often.then_some(()).ok_or(format!("not all above {CUT_FIXED}"));
+        self.check("cut records that miss 1 to 8 bytes and more", outcome);
+        for (number, met) in MISSED.into_iter().zip(self.missed) {
+            let outcome = met.then_some(()).ok_or("none".into());
+            self.check(&format!("cut records that miss {number}"), outcome);
         }
     }
 
@@ -171,6 +204,7 @@ impl Marker {
 struct Generated {
     full: Full,
     hand_overs: HandOvers,
+    missing: Missing,
     /// Hand overs refused and followed by a call of the service that runs.
     left_running: u64,
 }
@@ -183,11 +217,12 @@ impl Generated {
         let case = Case::bare(format!("generated script, seed {seed}"), played.script);
         let sheet = marker.compare(program, &case);
         self.left_running += self.hand_overs.count(&case.script, &sheet);
+        lines(&case.script, &sheet).for_each(|line| self.missing.add(line.code, line.number));
     }
 
-    /// Tables were filled, and hand overs of each sort came often.
+    /// Tables were filled, hand overs of each sort came often, and cut records.
     fn coverage(&self, marker: &mut Marker) {
-        let Generated { full, hand_overs, left_running } = self;
+        let Generated { full, hand_overs, missing, left_running } = self;
         marker.check("generated scripts that fill the tables", full.everywhere());
         println!("{full}");
         let often = hand_overs.each_above(HAND_OVERS) && *left_running > HAND_OVERS;
@@ -195,6 +230,10 @@ impl Generated {
         marker.check("hand overs of each sort in generated scripts", outcome);
         println!("in generated scripts, {hand_overs}");
         println!("refused and followed by a call of who runs: {left_running}");
+        let often = missing.each_above(CUT_GENERATED);
+        let outcome = often.then_some(()).ok_or(format!("not all above {CUT_GENERATED}"));
+        marker.check("cut records of each sort in generated scripts", outcome);
+        println!("in generated scripts, {missing}");
     }
 }
 

@@ -1,4 +1,5 @@
-//! Document 01's example and its exam cases, and those that hand over adds.
+//! Document 01's example and its exam cases, and those that hand over and the
+//! missing bytes of a cut record add.
 
 use second::{tag_of, Call};
 
@@ -17,8 +18,8 @@ pub fn cases() -> Vec<Case> {
         e_f(),
         g_h(),
         i(),
-        j("exam J, 01", 1, &[0x01]),
-        j("exam J, 02", 2, &[0x02]),
+        cut("exam J, 01", 1, &[0x01]),
+        malformed("exam J, 02", 2, &[0x02]),
         a_to_j(),
         draw_too_large(),
         check_of_identity_0(),
@@ -29,6 +30,11 @@ pub fn cases() -> Vec<Case> {
         hand_over_to_17(),
         retired("exam, kind 2", &[0x03, 0x02, 0x00]),
         retired("exam, kind 3", &[0x01, 0x03]),
+        cut("exam, an identity misses 8", 8, &[0x07, 0x01, 0x00]),
+        cut("exam, a length misses 2", 2, &[0x19, 0x08, 0x00, 0x00]),
+        cut("exam, a count misses 1", 1, &[0x49, 0x07, 0x00, 0x00, 0x05]),
+        cut("exam, contents miss 5", 5, &[0x49, 0x07, 0x00, 0x00, 0x05, 0x00]),
+        cut("exam, contents miss 3", 3, &[0x49, 0x07, 0x00, 0x00, 0x05, 0x00, 0x41, 0x42]),
     ]
 }
 
@@ -116,9 +122,16 @@ fn i() -> Case {
     case
 }
 
-fn j(name: &str, code: u8, record: &[u8]) -> Case {
+fn malformed(name: &str, code: u8, record: &[u8]) -> Case {
     let mut case = Case::new(name);
     case.malformed(code, record);
+    case
+}
+
+/// So many more bytes finish the field inside which the record ends.
+fn cut(name: &str, missing: usize, record: &[u8]) -> Case {
+    let mut case = Case::new(name);
+    case.cut(missing, record);
     case
 }
 
@@ -134,7 +147,7 @@ fn a_to_j() -> Case {
     case.accept(15, create(15, 1));
     case.refuse(6, create(16, 1));
     case.refuse(10, retrieve(1, 300, 1_407_374_883_553_287));
-    case.malformed(1, &[0x01]);
+    case.cut(1, &[0x01]);
     case
 }
 

@@ -337,7 +337,7 @@ fn wrong_maps() -> Vec<Case> {
 
 /// The place is missing.
 fn cut() -> Case {
-    written("hand over cut", &[CREATE_0, TO_0, ("03 0E", "1 0 0 -")])
+    written("hand over cut", &[CREATE_0, TO_0, ("03 0E", "1 1 0 -")])
 }
 
 /// A start and a yield as they once were, whole and cut, while a service runs

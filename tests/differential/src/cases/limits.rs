@@ -34,7 +34,7 @@ fn reports(length: usize) -> Case {
         case.accept(0, Call::Report);
     }
     if length % 2 == 1 {
-        case.malformed(1, &[1]);
+        case.cut(1, &[1]);
     }
     case
 }
@@ -46,16 +46,19 @@ fn too_long(what: &str, script: Vec<u8>) -> Case {
     case
 }
 
-/// The whole script is one record: whole, cut by a byte, a byte too long.
-fn longest_shared_write() -> [Case; 3] {
+/// The whole script is one record: whole, cut by a byte, cut behind its count, a
+/// byte too long.
+fn longest_shared_write() -> [Case; 4] {
     let bytes = vec![7; LONGEST];
     let mut whole = Case::new("a shared write of 65,530 bytes");
     whole.refuse(11, shared_write(0, &bytes[..LONGEST - 6]));
     assert_eq!(whole.script.len(), LONGEST);
     let mut cut = Case::new("a shared write of 65,530 bytes, cut");
-    cut.malformed(1, &whole.script[..LONGEST - 1]);
+    cut.cut(1, &whole.script[..LONGEST - 1]);
+    let mut count = Case::new("a shared write of 65,530 bytes, cut behind its count");
+    count.cut(65_530, &whole.script[..6]);
     let longer = too_long("a shared write", record_of(&shared_write(0, &bytes[..LONGEST - 5])));
-    [whole, cut, longer]
+    [whole, cut, count, longer]
 }
 
 fn longest_check() -> [Case; 2] {
