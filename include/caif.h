@@ -31,7 +31,8 @@ extern "C" {
 #define CAIF_ESCROW_VALUES 4096 /* the escrow's value bytes */
 #define CAIF_OUTPUT 1024        /* the output buffer */
 #define CAIF_VALUE 256          /* the longest value */
-#define CAIF_RECORD 65555       /* the longest record: a check of 65,535 bytes */
+#define CAIF_LINKS 16           /* the most links of a chain */
+#define CAIF_RECORD 65556       /* the longest record: a chain with 65,535 bytes */
 #define CAIF_DRAWS 281474976710656 /* a draw is below this, 2^48; a handle is length * 2^48 + draw */
 
 /* Kinds of calls. After each, the fields of its record, in the record's order. Kinds 2 and 3, start and yield, are
@@ -48,25 +49,37 @@ enum caif_kind {
     CAIF_PROTECT = 11,     /* identity (the recipient), offset, length, number (the draw); answers the handle */
     CAIF_RETRIEVE = 12,    /* identity (the source), offset, number (the handle); answers the length */
     CAIF_REPORT = 13,      /* none; answers services + 256 * log rows + 65,536 * escrow rows */
-    CAIF_HAND_OVER = 14    /* place: it runs next, and none where it is CAIF_NONE; a refusal leaves what runs */
+    CAIF_HAND_OVER = 14,   /* place: it runs next, and none where it is CAIF_NONE; a refusal leaves what runs */
+    CAIF_CHAIN = 15        /* place (the first way), identity, number (the tag or the handle), bytes (the logged values
+                            * in order, each after a 2-byte count); answers the count of links */
+};
+
+/* Ways of a chain of custody: the first in a chain's place field, the others at the front of the links' values. After
+ * CAIF_WAY_LOGGED and CAIF_WAY_ESCROWED a value has the next link's identity (8 bytes) and its tag or handle (8 bytes),
+ * lowest byte first; what follows is payload. A chain alters nothing and shows nothing. */
+enum caif_way {
+    CAIF_WAY_END = 1,     /* the chain ends here: at the front of a value only, never in the place field */
+    CAIF_WAY_LOGGED = 2,  /* the next link is logged: its value is the next of the bytes, and is checked */
+    CAIF_WAY_ESCROWED = 3 /* the next link is escrowed: it is looked up for the running service as recipient */
 };
 
 /* Codes. A refusal shows nothing and alters nothing. Its number is 0, but with CAIF_CUT, where it is how many more
  * bytes finish the field being read: its width less what is there of it. The map and the kind are fields of one byte;
  * the count of a bytes field and its contents are two fields. Where conditions of several hold, the order is 15; then
- * empty record 1, bit 0 of the map down 2, no kind byte 1, kind 2, map 3, cut field 1; then rising numbers.
+ * empty record 1, bit 0 of the map down 2, no kind byte 1, kind 2, map 3, cut field 1; then rising numbers, but for
+ * a chain: 4; then link by link 20, 19 by its way or a cut value, 9, 18, 19 by its head; then 19 by bytes left over.
  * Code 5, one already runs, is retired with start: no call gives it, and the number stays reserved and gets no other
  * meaning. */
 enum caif_code {
     CAIF_ACCEPTED = 0,
     CAIF_CUT = 1,            /* the record ends before a field does, or is empty; number: the bytes missing */
-    CAIF_UNKNOWN_KIND = 2,   /* bit 0 of the map is down, or the kind is 0, 2, 3 or 15 to 255 */
+    CAIF_UNKNOWN_KIND = 2,   /* bit 0 of the map is down, or the kind is 0, 2, 3 or 16 to 255 */
     CAIF_WRONG_MAP = 3,      /* the map is not the kind's */
-    CAIF_NONE_RUNS = 4,      /* exit, heap write, heap read, attest, protect, retrieve */
+    CAIF_NONE_RUNS = 4,      /* exit, heap write, heap read, attest, protect, retrieve, chain */
     CAIF_NO_PLACE = 6,       /* place above 15: create, heap write, heap read; above 16: hand over */
     CAIF_PLACE_STATE = 7,    /* place taken (create), or 0 to 15 and empty (hand over) */
     CAIF_NOT_RUNNING = 8,    /* the place is not the running one: heap write, heap read */
-    CAIF_IDENTITY_ZERO = 9,  /* create, check, protect, retrieve */
+    CAIF_IDENTITY_ZERO = 9,  /* create, check, protect, retrieve; chain: of any link */
     CAIF_NO_ROW = 10,        /* no such escrow row: retrieve */
     CAIF_BEYOND = 11,        /* offset + length (retrieve: the stored length) is beyond 256 (heap) or 1,024 (shared) */
     CAIF_DRAW = 12,          /* draw of 2^48 or more: protect */
@@ -74,7 +87,12 @@ enum caif_code {
     CAIF_ESCROW_FULL = 14,   /* rows or value bytes are lacking: protect */
     CAIF_NOT_SOUND = 15,     /* a lent buffer is not of its size, or the box is not sound */
     CAIF_TOO_LONG = 16,      /* a script of more than 65,536 bytes: the program boxrun alone gives it */
-    CAIF_NO_ROOM = 17        /* the writer's buffer is shorter than the record, or its bytes are over 65,535 */
+    CAIF_NO_ROOM = 17,       /* the writer's buffer is shorter than the record, or its bytes are over 65,535 */
+    CAIF_NO_LINK = 18,       /* the check of a logged link is no, or an escrowed link has no row: chain */
+    CAIF_BAD_CHAIN = 19,     /* a way is not 2 or 3, a logged value is cut in the bytes, a value is empty, begins with
+                              * another byte than 1 to 3 or has fewer than 16 bytes after a 2 or 3, or bytes are left
+                              * over at the end: chain */
+    CAIF_LONG_CHAIN = 20     /* a link more after CAIF_LINKS of them: chain */
 };
 
 /* The used rows and value bytes of a table. 4 bytes. */
@@ -120,7 +138,7 @@ struct caif_reply {
 
 /* The numbers of a record's fields; those that the kind does not have are passed over. 32 bytes. */
 struct caif_fields {
-    uint8_t place;
+    uint8_t place;    /* in a chain the first link's way */
     uint64_t identity;
     uint16_t offset;
     uint16_t length;

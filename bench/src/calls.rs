@@ -5,11 +5,12 @@ use std::sync::atomic::{AtomicU64, Ordering};
 use std::time::{Duration, Instant};
 
 use differential::calls::{
-    attest, check, create, hand_over, heap_read, heap_write, protect, record_of, retrieve,
+    attest, chain, check, create, hand_over, heap_read, heap_write, protect, record_of, retrieve,
     shared_read, shared_write,
 };
+use differential::{counted, link_value};
 use interface::Sides;
-use second::{tag_of, Call, Host, DRAW_LIMIT, NONE_RUNS, OUTPUT_SIZE};
+use second::{tag_of, Call, Host, Link, DRAW_LIMIT, NONE_RUNS, OUTPUT_SIZE};
 
 use crate::table;
 
@@ -114,6 +115,9 @@ fn add_empty(cases: &mut Vec<Case>) {
     add("report", &fresh, Call::Report);
     add("hand over, none runs", &created, hand_over(0));
     add("hand over to 16", &running, hand_over(NONE_RUNS));
+    let logged = after(running.clone(), &[heap_write(0, 0, &[1; 64]), attest(0, 64)]);
+    let bytes = counted(&[1; 64]);
+    add("a chain of one link", &logged, chain(2, 1, tag_of(1, &[1; 64]).0, &bytes));
 }
 
 fn add_full(cases: &mut Vec<Case>) {
@@ -142,6 +146,34 @@ fn add_full(cases: &mut Vec<Case>) {
     add("hand over, none runs", &stopped, 0, hand_over(15));
     add("hand over to another place", &running, 0, hand_over(7));
     add("hand over to 16", &running, 0, hand_over(NONE_RUNS));
+    let (linked, Link { way, identity, number }, bytes) = chained();
+    let chain = chain(way, identity, number, &bytes);
+    add("a chain of sixteen links, alternating", &linked, 0, chain);
+}
+
+/// A full box, place 15 running, whose last eight rows of each table are the links
+/// of a chain, logged and escrowed in turn; its first link, which is the last row
+/// of the log, and the chain bytes.
+fn chained() -> (Host, Link, Vec<u8>) {
+    let mut host = after(full(16, 56), &[hand_over(15)]);
+    let (mut next, mut bytes) = (None, Vec::new());
+    for n in 0..8 {
+        for way in [3, 2] {
+            let head = link_value(next, &[]);
+            let value = link_value(next, &vec![9; 64 - head.len()]);
+            let draw = 1_000 + n;
+            let (put, number) = match way {
+                2 => (attest(0, 64), tag_of(16, &value).0),
+                _ => (protect(16, 0, 64, draw), 64 * DRAW_LIMIT + draw),
+            };
+            host = after(host, &[heap_write(15, 0, &value), put]);
+            if way == 2 {
+                bytes = [counted(&value), bytes].concat();
+            }
+            next = Some(Link { way, identity: 16, number });
+        }
+    }
+    (host, next.expect("there are links"), bytes)
 }
 
 /// The n-th value of 64 bytes that is logged and escrowed. All are of one

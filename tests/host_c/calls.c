@@ -1,8 +1,22 @@
-/* The example paper, then every other kind of call, then hand overs of each sort. */
+/* The example paper, then every other kind of call, then hand overs of each sort, then chains. */
 #include "host.h"
 
 #define HANDLE 281474976710663u      /* of length 1 and draw 7 */
 #define TAG 5952190651599004191u     /* FNV-1a of 01 00 00 00 00 00 00 00 41 */
+#define END_TAG 8750169272185725317u /* FNV-1a of 03 00 00 00 00 00 00 00 01 */
+#define LINK 4785074604081161u       /* of length 17 and draw 9 */
+#define OWN 4785074604081162u        /* of length 17 and draw 10 */
+
+/* The same as bytes, lowest first. */
+#define ID_0 0, 0, 0, 0, 0, 0, 0, 0
+#define ID_3 3, 0, 0, 0, 0, 0, 0, 0
+#define END_TAG_BYTES 0x85, 0x21, 0x2B, 0xB9, 0x97, 0xD8, 0x6E, 0x79
+#define LINK_BYTES 9, 0, 0, 0, 0, 0, 0x11, 0
+#define OWN_BYTES 10, 0, 0, 0, 0, 0, 0x11, 0
+
+/* The first names the end that identity 3 logged, the second its own handle. */
+static const uint8_t link_value[17] = {2, ID_3, END_TAG_BYTES};
+static const uint8_t own_value[17] = {3, ID_3, OWN_BYTES};
 
 /* What each step alters, written by hand. */
 static void nothing(struct host *host)
@@ -109,11 +123,49 @@ static void heap_2_shown(struct host *host)
     host->output[0] = 0x43;
 }
 
+static void end_written(struct host *host)
+{
+    host->heaps[512] = 1;
+}
+
+static void end_attested(struct host *host)
+{
+    host->held.log = (struct caif_used){.rows = 2, .bytes = 2};
+    host->log[1] = (struct caif_log_row){.identity = 3, .tag = END_TAG, .first = 1, .length = 1};
+    host->log_values[1] = 1;
+}
+
+static void link_written(struct host *host)
+{
+    memcpy(host->heaps + 512, link_value, sizeof link_value);
+}
+
+static void link_protected(struct host *host)
+{
+    host->held.escrow = (struct caif_used){.rows = 2, .bytes = 18};
+    host->escrow[1] =
+        (struct caif_escrow_row){.source = 3, .recipient = 3, .handle = LINK, .first = 1, .length = 17};
+    memcpy(host->escrow_values + 1, link_value, sizeof link_value);
+}
+
+static void own_written(struct host *host)
+{
+    memcpy(host->heaps + 512, own_value, sizeof own_value);
+}
+
+static void own_protected(struct host *host)
+{
+    host->held.escrow = (struct caif_used){.rows = 3, .bytes = 35};
+    host->escrow[2] =
+        (struct caif_escrow_row){.source = 3, .recipient = 3, .handle = OWN, .first = 18, .length = 17};
+    memcpy(host->escrow_values + 18, own_value, sizeof own_value);
+}
+
 /* A call: how it is written, its record, its answer, and what it alters. All of the record is used. */
 struct step {
     uint8_t kind;
     struct caif_fields fields;
-    uint8_t bytes[1];
+    uint8_t bytes[17];
     size_t bytes_size;
     uint8_t record[32];
     size_t length;
@@ -125,12 +177,12 @@ struct step {
 
 #define FIELDS(...) .fields = {__VA_ARGS__}
 #define RECORD(...) .record = {__VA_ARGS__}, .length = sizeof((uint8_t[]){__VA_ARGS__})
-#define ONE_BYTE(b) .bytes = {b}, .bytes_size = 1
+#define BYTES(...) .bytes = {__VA_ARGS__}, .bytes_size = sizeof((uint8_t[]){__VA_ARGS__})
 
 static const struct step example[] = {
     {CAIF_CREATE, FIELDS(.identity = 1), RECORD(0x07, 0x01, 0, 1, 0, 0, 0, 0, 0, 0, 0), .alters = created},
     {CAIF_HAND_OVER, FIELDS(.place = 0), RECORD(0x03, 0x0E, 0), .alters = started},
-    {CAIF_HEAP_WRITE, FIELDS(.place = 0), ONE_BYTE(0x41), RECORD(0x4B, 0x05, 0, 0, 0, 1, 0, 0x41), .number = 1,
+    {CAIF_HEAP_WRITE, FIELDS(.place = 0), BYTES(0x41), RECORD(0x4B, 0x05, 0, 0, 0, 1, 0, 0x41), .number = 1,
      .alters = heap_written},
     {CAIF_PROTECT, FIELDS(.identity = 1, .length = 1, .number = 7),
      RECORD(0x3D, 0x0B, 1, 0, 0, 0, 0, 0, 0, 0, 0, 0, 1, 0, 7, 0, 0, 0, 0, 0, 0, 0), .number = HANDLE,
@@ -143,14 +195,14 @@ static const struct step example[] = {
 static const struct step other_kinds[] = {
     {CAIF_HAND_OVER, FIELDS(.place = 0), RECORD(0x03, 0x0E, 0), .alters = started},
     {CAIF_ATTEST, FIELDS(.length = 1), RECORD(0x19, 0x09, 0, 0, 1, 0), .number = TAG, .alters = attested},
-    {CAIF_CHECK, FIELDS(.identity = 1, .number = TAG), ONE_BYTE(0x41),
+    {CAIF_CHECK, FIELDS(.identity = 1, .number = TAG), BYTES(0x41),
      RECORD(0x65, 0x0A, 1, 0, 0, 0, 0, 0, 0, 0, 0x1F, 0xA2, 0xF5, 0x8F, 0xDC, 0x6D, 0x9A, 0x52, 1, 0, 0x41),
      .number = 1, .alters = nothing},
     {CAIF_RETRIEVE, FIELDS(.identity = 1, .offset = 255, .number = HANDLE),
      RECORD(0x2D, 0x0C, 1, 0, 0, 0, 0, 0, 0, 0, 0xFF, 0, 7, 0, 0, 0, 0, 0, 1, 0), .number = 1, .alters = retrieved},
     {CAIF_HEAP_READ, FIELDS(.offset = 254, .length = 2), RECORD(0x1B, 0x06, 0, 0xFE, 0, 2, 0), .number = 2,
      .shown = 2, .alters = heap_shown},
-    {CAIF_SHARED_WRITE, FIELDS(.offset = 1023), ONE_BYTE(0x42), RECORD(0x49, 0x07, 0xFF, 3, 1, 0, 0x42),
+    {CAIF_SHARED_WRITE, FIELDS(.offset = 1023), BYTES(0x42), RECORD(0x49, 0x07, 0xFF, 3, 1, 0, 0x42),
      .number = 1, .alters = shared_written},
     {CAIF_SHARED_READ, FIELDS(.offset = 1022, .length = 2), RECORD(0x19, 0x08, 0xFE, 3, 2, 0), .number = 2,
      .shown = 2, .alters = shared_shown},
@@ -169,7 +221,7 @@ static const struct step hand_overs[] = {
     {CAIF_CREATE, FIELDS(.place = 15, .identity = 4), RECORD(0x07, 0x01, 15, 4, 0, 0, 0, 0, 0, 0, 0), .number = 15,
      .alters = created_15},
     {CAIF_HAND_OVER, FIELDS(.place = 2), RECORD(0x03, 0x0E, 2), .alters = started_2},
-    {CAIF_HEAP_WRITE, FIELDS(.place = 2), ONE_BYTE(0x43), RECORD(0x4B, 0x05, 2, 0, 0, 1, 0, 0x43), .number = 1,
+    {CAIF_HEAP_WRITE, FIELDS(.place = 2), BYTES(0x43), RECORD(0x4B, 0x05, 2, 0, 0, 1, 0, 0x43), .number = 1,
      .alters = heap_2_written},
     {CAIF_HAND_OVER, FIELDS(.place = 2), RECORD(0x03, 0x0E, 2), .alters = nothing},
     {CAIF_HAND_OVER, FIELDS(.place = 0), RECORD(0x03, 0x0E, 0), .code = CAIF_PLACE_STATE, .alters = nothing},
@@ -179,6 +231,51 @@ static const struct step hand_overs[] = {
     {CAIF_HAND_OVER, FIELDS(.place = 2), RECORD(0x03, 0x0E, 2), .alters = started_2},
     {CAIF_HEAP_READ, FIELDS(.place = 2, .length = 1), RECORD(0x1B, 0x06, 2, 0, 0, 1, 0), .number = 1, .shown = 1,
      .alters = heap_2_shown},
+    {CAIF_HAND_OVER, FIELDS(.place = CAIF_NONE), RECORD(0x03, 0x0E, 0x10), .alters = yielded},
+};
+
+/* After the hand overs: an end that identity 3 logs, a link that it escrows for itself and that names the end, and one
+ * that names its own handle. Chains are accepted, and refused with each of their numbers. They alter nothing. */
+static const struct step chains[] = {
+    {CAIF_CHAIN, FIELDS(.place = CAIF_WAY_LOGGED, .identity = 3, .number = END_TAG), BYTES(1, 0, 1),
+     RECORD(0x67, 0x0F, 2, ID_3, END_TAG_BYTES, 3, 0, 1, 0, 1), .code = CAIF_NONE_RUNS, .alters = nothing},
+    {CAIF_HAND_OVER, FIELDS(.place = 2), RECORD(0x03, 0x0E, 2), .alters = started_2},
+    {CAIF_CHAIN, FIELDS(.place = CAIF_WAY_LOGGED, .identity = 3, .number = END_TAG), BYTES(1, 0, 1),
+     RECORD(0x67, 0x0F, 2, ID_3, END_TAG_BYTES, 3, 0, 1, 0, 1), .code = CAIF_NO_LINK, .alters = nothing},
+    {CAIF_HEAP_WRITE, FIELDS(.place = 2), BYTES(1), RECORD(0x4B, 0x05, 2, 0, 0, 1, 0, 1), .number = 1,
+     .alters = end_written},
+    {CAIF_ATTEST, FIELDS(.length = 1), RECORD(0x19, 0x09, 0, 0, 1, 0), .number = END_TAG, .alters = end_attested},
+    {CAIF_CHAIN, FIELDS(.place = CAIF_WAY_LOGGED, .identity = 3, .number = END_TAG), BYTES(1, 0, 1),
+     RECORD(0x67, 0x0F, 2, ID_3, END_TAG_BYTES, 3, 0, 1, 0, 1), .number = 1, .alters = nothing},
+    {CAIF_HEAP_WRITE, FIELDS(.place = 2), BYTES(2, ID_3, END_TAG_BYTES),
+     RECORD(0x4B, 0x05, 2, 0, 0, 0x11, 0, 2, ID_3, END_TAG_BYTES), .number = 17, .alters = link_written},
+    {CAIF_PROTECT, FIELDS(.identity = 3, .length = 17, .number = 9),
+     RECORD(0x3D, 0x0B, ID_3, 0, 0, 0x11, 0, 9, 0, 0, 0, 0, 0, 0, 0), .number = LINK, .alters = link_protected},
+    {CAIF_CHAIN, FIELDS(.place = CAIF_WAY_ESCROWED, .identity = 3, .number = LINK), BYTES(1, 0, 1),
+     RECORD(0x67, 0x0F, 3, ID_3, LINK_BYTES, 3, 0, 1, 0, 1), .number = 2, .alters = nothing},
+    {CAIF_CHAIN, FIELDS(.place = CAIF_WAY_ESCROWED, .identity = 3, .number = LINK),
+     RECORD(0x67, 0x0F, 3, ID_3, LINK_BYTES, 0, 0), .code = CAIF_BAD_CHAIN, .alters = nothing},
+    {CAIF_CHAIN, FIELDS(.place = CAIF_WAY_ESCROWED, .identity = 3, .number = LINK), BYTES(1, 0),
+     RECORD(0x67, 0x0F, 3, ID_3, LINK_BYTES, 2, 0, 1, 0), .code = CAIF_BAD_CHAIN, .alters = nothing},
+    {CAIF_CHAIN, FIELDS(.place = CAIF_WAY_ESCROWED, .identity = 3, .number = LINK), BYTES(1, 0, 1, 0),
+     RECORD(0x67, 0x0F, 3, ID_3, LINK_BYTES, 4, 0, 1, 0, 1, 0), .code = CAIF_BAD_CHAIN, .alters = nothing},
+    {CAIF_CHAIN, FIELDS(.place = CAIF_WAY_ESCROWED, .number = LINK), BYTES(1, 0, 1),
+     RECORD(0x67, 0x0F, 3, ID_0, LINK_BYTES, 3, 0, 1, 0, 1), .code = CAIF_IDENTITY_ZERO, .alters = nothing},
+    {CAIF_CHAIN, FIELDS(.place = CAIF_WAY_END, .identity = 3, .number = LINK), BYTES(1, 0, 1),
+     RECORD(0x67, 0x0F, 1, ID_3, LINK_BYTES, 3, 0, 1, 0, 1), .code = CAIF_BAD_CHAIN, .alters = nothing},
+    {CAIF_CHAIN, FIELDS(.place = CAIF_WAY_ESCROWED, .identity = 3, .number = OWN), BYTES(1, 0, 1),
+     RECORD(0x67, 0x0F, 3, ID_3, OWN_BYTES, 3, 0, 1, 0, 1), .code = CAIF_NO_LINK, .alters = nothing},
+    {CAIF_HEAP_WRITE, FIELDS(.place = 2), BYTES(3, ID_3, OWN_BYTES),
+     RECORD(0x4B, 0x05, 2, 0, 0, 0x11, 0, 3, ID_3, OWN_BYTES), .number = 17, .alters = own_written},
+    {CAIF_PROTECT, FIELDS(.identity = 3, .length = 17, .number = 10),
+     RECORD(0x3D, 0x0B, ID_3, 0, 0, 0x11, 0, 0x0A, 0, 0, 0, 0, 0, 0, 0), .number = OWN, .alters = own_protected},
+    {CAIF_CHAIN, FIELDS(.place = CAIF_WAY_ESCROWED, .identity = 3, .number = OWN),
+     RECORD(0x67, 0x0F, 3, ID_3, OWN_BYTES, 0, 0), .code = CAIF_LONG_CHAIN, .alters = nothing},
+    {CAIF_HAND_OVER, FIELDS(.place = 15), RECORD(0x03, 0x0E, 0x0F), .alters = started_15},
+    {CAIF_CHAIN, FIELDS(.place = CAIF_WAY_ESCROWED, .identity = 3, .number = LINK), BYTES(1, 0, 1),
+     RECORD(0x67, 0x0F, 3, ID_3, LINK_BYTES, 3, 0, 1, 0, 1), .code = CAIF_NO_LINK, .alters = nothing},
+    {CAIF_CHAIN, FIELDS(.place = CAIF_WAY_LOGGED, .identity = 3, .number = END_TAG), BYTES(1, 0, 1),
+     RECORD(0x67, 0x0F, 2, ID_3, END_TAG_BYTES, 3, 0, 1, 0, 1), .number = 1, .alters = nothing},
     {CAIF_HAND_OVER, FIELDS(.place = CAIF_NONE), RECORD(0x03, 0x0E, 0x10), .alters = yielded},
 };
 
@@ -220,27 +317,32 @@ void run_example(struct host *host)
         call(host, &right_sizes, example[n].record, example[n].length);
 }
 
-/* A check of 65,535 bytes fills a buffer of CAIF_RECORD to the last byte, and one byte fewer is too short. Its record
- * cut by a byte, and cut behind its count, tells what is missing. */
+/* A chain with 65,535 bytes fills a buffer of CAIF_RECORD to the last byte, and one byte fewer is too short. Its record
+ * cut by a byte, and cut behind its count, tells what is missing. A check of as many bytes is a byte shorter. */
 static void check_longest(void)
 {
     static uint8_t bytes[65535], out[CAIF_RECORD];
-    struct caif_fields fields = {.identity = 1, .number = 2};
+    struct caif_fields fields = {.place = CAIF_WAY_LOGGED, .identity = 1, .number = 2};
     memset(bytes, 0x5A, sizeof bytes);
-    struct caif_written written = caif_write(CAIF_CHECK, fields, bytes, sizeof bytes, out, CAIF_RECORD - 1);
+    struct caif_written written = caif_write(CAIF_CHAIN, fields, bytes, sizeof bytes, out, CAIF_RECORD - 1);
     check(written.code == CAIF_NO_ROOM && written.length == 0, "the longest record", "one byte too few");
-    written = caif_write(CAIF_CHECK, fields, bytes, sizeof bytes, out, CAIF_RECORD);
+    written = caif_write(CAIF_CHAIN, fields, bytes, sizeof bytes, out, CAIF_RECORD);
     check(written.code == CAIF_ACCEPTED && written.length == CAIF_RECORD, "the longest record", "code and length");
-    check(out[0] == 0x65 && out[1] == 10 && out[18] == 0xFF && out[19] == 0xFF, "the longest record", "front");
-    check(memcmp(out + 20, bytes, sizeof bytes) == 0, "the longest record", "bytes");
+    check(out[0] == 0x67 && out[1] == 15 && out[2] == 2, "the longest record", "front");
+    check(out[19] == 0xFF && out[20] == 0xFF, "the longest record", "count");
+    check(memcmp(out + 21, bytes, sizeof bytes) == 0, "the longest record", "bytes");
     static struct host host;
     make_fresh(&host);
     struct caif_reply reply = call(&host, &right_sizes, out, CAIF_RECORD);
-    check_reply(&reply, CAIF_ACCEPTED, 0, CAIF_RECORD, 0, "the longest record");
+    check_reply(&reply, CAIF_NONE_RUNS, 0, CAIF_RECORD, 0, "the longest record");
     reply = call(&host, &right_sizes, out, CAIF_RECORD - 1);
     check_reply(&reply, CAIF_CUT, 1, 0, 0, "the longest record cut by a byte");
-    reply = call(&host, &right_sizes, out, 20);
+    reply = call(&host, &right_sizes, out, 21);
     check_reply(&reply, CAIF_CUT, 65535, 0, 0, "the longest record cut behind its count");
+    written = caif_write(CAIF_CHECK, fields, bytes, sizeof bytes, out, CAIF_RECORD - 1);
+    check(written.code == CAIF_ACCEPTED && written.length == CAIF_RECORD - 1, "the longest check", "code and length");
+    reply = call(&host, &right_sizes, out, CAIF_RECORD - 1);
+    check_reply(&reply, CAIF_ACCEPTED, 0, CAIF_RECORD - 1, 0, "the longest check");
 }
 
 void check_calls(void)
@@ -255,4 +357,5 @@ void check_calls(void)
     check_steps(&host, example, COUNT(example), "the example");
     check_steps(&host, other_kinds, COUNT(other_kinds), "other kinds");
     check_steps(&host, hand_overs, COUNT(hand_overs), "hand overs");
+    check_steps(&host, chains, COUNT(chains), "chains");
 }

@@ -1,4 +1,4 @@
-/* Size, alignment and offsets of each struct, sizes, kinds and codes, as the header says. */
+/* Size, alignment and offsets of each struct, sizes, kinds, ways and codes, as the header says. */
 #include "host.h"
 
 #define SIZE(type, size, align)                                                   \
@@ -62,6 +62,8 @@ static void check_sizes(void)
     check(CAIF_ESCROW_ROWS == 64 && CAIF_ESCROW_VALUES == 4096, "sizes", "the escrow");
     check(CAIF_OUTPUT == 1024 && CAIF_VALUE == 256, "sizes", "the output buffer and a value");
     check(CAIF_DRAWS == (uint64_t)1 << 48, "sizes", "draws");
+    check(CAIF_LINKS == 16, "sizes", "the links of a chain");
+    check(CAIF_RECORD == 1 + 1 + 1 + 8 + 8 + 2 + 65535, "sizes", "the longest record, a chain's");
 }
 
 /* Whether it is one of the kinds. A kind more in the header makes the compiler warn of this. */
@@ -80,6 +82,7 @@ static int is_kind(enum caif_kind kind)
     case CAIF_RETRIEVE:
     case CAIF_REPORT:
     case CAIF_HAND_OVER:
+    case CAIF_CHAIN:
         return 1;
     }
     return 0;
@@ -106,6 +109,9 @@ static int is_code(enum caif_code code)
     case CAIF_NOT_SOUND:
     case CAIF_TOO_LONG:
     case CAIF_NO_ROOM:
+    case CAIF_NO_LINK:
+    case CAIF_BAD_CHAIN:
+    case CAIF_LONG_CHAIN:
         return 1;
     }
     return 0;
@@ -120,6 +126,13 @@ static void check_kinds(void)
     check(CAIF_SHARED_WRITE == 7 && CAIF_SHARED_READ == 8, "kinds", "shared memory");
     check(CAIF_ATTEST == 9 && CAIF_CHECK == 10, "kinds", "the log");
     check(CAIF_PROTECT == 11 && CAIF_RETRIEVE == 12 && CAIF_REPORT == 13, "kinds", "the escrow and the report");
+    check(CAIF_CHAIN == 15 && !is_kind((enum caif_kind)16), "kinds", "a chain, the last");
+}
+
+/* The first byte of a link value. A chain's place field is the second or the third. */
+static void check_ways(void)
+{
+    check(CAIF_WAY_END == 1 && CAIF_WAY_LOGGED == 2 && CAIF_WAY_ESCROWED == 3, "ways", "the three");
 }
 
 /* The numbers of the codes. None has 5, which is retired. */
@@ -133,12 +146,14 @@ static void check_codes(void)
     check(CAIF_IDENTITY_ZERO == 9 && CAIF_NO_ROW == 10 && CAIF_BEYOND == 11 && CAIF_DRAW == 12, "codes", "fields");
     check(CAIF_LOG_FULL == 13 && CAIF_ESCROW_FULL == 14, "codes", "full tables");
     check(CAIF_NOT_SOUND == 15 && CAIF_TOO_LONG == 16 && CAIF_NO_ROOM == 17, "codes", "the host's");
+    check(CAIF_NO_LINK == 18 && CAIF_BAD_CHAIN == 19 && CAIF_LONG_CHAIN == 20, "codes", "a chain's");
 }
 
 void check_layout(void)
 {
     check_sizes();
     check_kinds();
+    check_ways();
     check_codes();
     check_held();
     check_rows();

@@ -70,20 +70,25 @@ static void check_damaged(void)
 #define REFUSED(code, used, label, ...)                                                              \
     refused(&host, &right_sizes, (const uint8_t[]){__VA_ARGS__}, sizeof((uint8_t[]){__VA_ARGS__}), code, used, label)
 
+#define ZEROS 0, 0, 0, 0, 0, 0, 0, 0 /* a field of 8 bytes */
+
 static void check_records(void)
 {
     static struct host host;
     run_example(&host);
     REFUSED(CAIF_UNKNOWN_KIND, 0, "no kind", 0x02);
-    REFUSED(CAIF_UNKNOWN_KIND, 0, "kind 15", 0x01, 0x0F);
+    REFUSED(CAIF_UNKNOWN_KIND, 0, "kind 16", 0x01, 0x10);
+    REFUSED(CAIF_UNKNOWN_KIND, 0, "kind 16 with a chain's map", 0x67, 0x10, 2);
     REFUSED(CAIF_UNKNOWN_KIND, 0, "kind 2, retired", 0x03, 0x02, 0);
     REFUSED(CAIF_UNKNOWN_KIND, 0, "kind 2, retired, cut", 0x03, 0x02);
     REFUSED(CAIF_UNKNOWN_KIND, 0, "kind 3, retired", 0x01, 0x03);
     REFUSED(CAIF_WRONG_MAP, 0, "another map", 0x03, 0x0D, 0);
     REFUSED(CAIF_WRONG_MAP, 0, "hand over with another map", 0x01, 0x0E);
+    REFUSED(CAIF_WRONG_MAP, 0, "chain with check's map", 0x65, 0x0F, 2);
     REFUSED(CAIF_WRONG_MAP, 0, "a cut record with another map", 0x4B, 0x07, 0);
     REFUSED(CAIF_UNKNOWN_KIND, 0, "a cut record of kind 0", 0x07, 0);
     REFUSED(CAIF_NONE_RUNS, 2, "exit while none runs", 0x01, 0x04, 0xFF);
+    REFUSED(CAIF_NONE_RUNS, 21, "chain while none runs", 0x67, 0x0F, 0, ZEROS, ZEROS, 0, 0, 0xFF);
     REFUSED(CAIF_NO_PLACE, 3, "hand over to 17", 0x03, 0x0E, 17);
     REFUSED(CAIF_PLACE_STATE, 3, "hand over to an empty place", 0x03, 0x0E, 1);
 }
@@ -113,6 +118,9 @@ static const struct cuts cuts[] = {
     {"retrieve", CUT_RECORD(0x2D, 0x0C, 1, 0, 0, 0, 0, 0, 0, 0, 0xFF, 0, 7, 0, 0, 0, 0, 0, 1, 0),
      MISSING(1, 1, EIGHT, 2, 1, EIGHT)},
     {"hand over", CUT_RECORD(0x03, 0x0E, 0), MISSING(1, 1, 1)},
+    {"chain",
+     CUT_RECORD(0x67, 0x0F, 2, 1, 0, 0, 0, 0, 0, 0, 0, 0x1F, 0xA2, 0xF5, 0x8F, 0xDC, 0x6D, 0x9A, 0x52, 3, 0, 1, 0, 1),
+     MISSING(1, 1, 1, EIGHT, EIGHT, 2, 1, 3, 2, 1)},
 };
 
 /* Every field of these cut at every byte, the empty record and the map alone among them. */
@@ -190,7 +198,9 @@ static void check_writer(void)
     not_written(0, 0, 64, CAIF_UNKNOWN_KIND, "kind 0");
     not_written(2, 0, 64, CAIF_UNKNOWN_KIND, "kind 2, retired");
     not_written(3, 0, 0, CAIF_UNKNOWN_KIND, "kind 3, retired, in no bytes");
-    not_written(15, 0, 0, CAIF_UNKNOWN_KIND, "kind 15 in no bytes");
+    not_written(16, 0, 0, CAIF_UNKNOWN_KIND, "kind 16 in no bytes");
+    not_written(CAIF_CHAIN, 0, 20, CAIF_NO_ROOM, "a chain in 20 bytes");
+    not_written(CAIF_CHAIN, 65536, 70000, CAIF_NO_ROOM, "a chain with 65,536 bytes");
 }
 
 void check_refusals(void)

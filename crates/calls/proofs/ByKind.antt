@@ -3,9 +3,9 @@ use Prim.Native.Nat.{ℕ, zero, suc}
 use mathlib.Core.Path.{_≡_, refl, sym, ap, _∙_}
 use mathlib.Core.List.{List, []}
 use Rattle.record.specs.declared.Call as code
-use Rattle.record.specs.declared.Call.the-variants.{Create, Exit, HeapWrite, HeapRead, SharedWrite, SharedRead, Attest, Check, Protect, Retrieve, Report, HandOver}
+use Rattle.record.specs.declared.Call.the-variants.{Create, Exit, HeapWrite, HeapRead, SharedWrite, SharedRead, Attest, Check, Protect, Retrieve, Report, HandOver, Chain}
 use Rattle.record.specs.Call.{Call}
-use Rattle.record.specs.Meaning.{bytesIn, callIn}
+use Rattle.record.specs.Meaning.{bytesIn, wayIn, numberIn, callIn}
 use Rattle.ideal.specs.Step.{step}
 use Rattle.ideal.specs.Tables.{Tables, tables, stateOf}
 use Rattle.ideal.specs.Box.{Result, laid, outputAfter}
@@ -31,6 +31,8 @@ use Rattle.escrow.specs.Narrow.{protectOn}
 use Rattle.escrow.proofs.Bridge.{protect-step, protect-alone}
 use Rattle.retrieval.specs.Narrow.{retrieveAnswer, retrieveHeaps}
 use Rattle.retrieval.proofs.Bridge.{retrieve-step}
+use Rattle.chain.specs.Narrow.{chainAnswer}
+use Rattle.chain.proofs.Bridge.{chain-step}
 use Rattle.calls.specs.Entry.{EntryResult, resultOn, carriedOn}
 
 -- ---- what each kind leaves and answers
@@ -67,6 +69,9 @@ byKind t output bytes (Retrieve i o h) =
     (retrieveAnswer (t .box) (t .escrowRows) (t .escrowValues) i o h) output
 byKind t output bytes Report = replied t (reportOn (t .box)) output
 byKind t output bytes (HandOver p) = repliedBox t (handOverOn (t .box) p) (t .heaps) output
+byKind t output bytes (Chain i f part) =
+    replied t
+    (chainAnswer (t .box) (t .logRows) (t .escrowRows) (t .logValues) (t .escrowValues) (wayIn f) i (numberIn f) (bytesIn bytes part)) output
 
 -- ---- bytes shown: none but by the reads
 
@@ -98,7 +103,7 @@ shows-bytes t c a before after u s =
 
 module _ (t : Tables) (k : Valid (stateOf t)) (e : tables (stateOf t) ≡ t) (output bytes : List ℕ) where
   by-kind-valid : (c : code.Call) → byKind t output bytes c ≡ carriedOn t (callIn bytes c) output
-  unfolding byKind callIn carriedOn createOn exitOn heapWriteAnswer heapReadAnswer sharedWriteAnswer sharedReadAnswer checkOn retrieveAnswer reportOn handOverOn
+  unfolding byKind callIn carriedOn createOn exitOn heapWriteAnswer heapReadAnswer sharedWriteAnswer sharedReadAnswer checkOn retrieveAnswer reportOn handOverOn chainAnswer
   by-kind-valid (Create p i) = shows-none _ _ output (create-step t k e p i 0) (answered-alone _ _)
   by-kind-valid Exit = shows-none _ _ output (exit-step t k e 0) (answered-alone _ _)
   by-kind-valid (HeapWrite p o part) =
@@ -113,6 +118,7 @@ module _ (t : Tables) (k : Valid (stateOf t)) (e : tables (stateOf t) ≡ t) (ou
   by-kind-valid (Retrieve i o h) = shows-none _ _ output (retrieve-step t k e i o h 0) (answered-alone _ _)
   by-kind-valid Report = shows-none _ _ output (report-step t k e 0) (answered-alone _ _)
   by-kind-valid (HandOver p) = shows-none _ _ output (hand-over-step t k e p 0) (answered-alone _ _)
+  by-kind-valid (Chain i f part) = shows-none _ _ output (chain-step t e (wayIn f) i (numberIn f) (bytesIn bytes part) 0) (answered-alone _ _)
 
 -- what is as `byKind` says is the laid-out step
 pub by-kind : {x : EntryResult} {t : Tables} {n : ℕ} → Sound t n → (output bytes : List ℕ) (c : code.Call)

@@ -6,9 +6,10 @@ use Rattle.fnv.specs.declared.Tag.{Tag}
 use Rattle.record.specs.declared.Draw.{Draw}
 use Rattle.record.specs.declared.Handle.{Handle}
 use Rattle.record.specs.declared.Part.{Part}
+use Rattle.record.specs.declared.First.{First}
 use Rattle.record.specs.declared.Call as code
-use Rattle.record.specs.declared.Call.the-variants.{Create, Exit, HeapWrite, HeapRead, SharedWrite, SharedRead, Attest, Check, Protect, Retrieve, Report, HandOver}
-use Rattle.record.specs.Meaning.{bytesIn, callIn}
+use Rattle.record.specs.declared.Call.the-variants.{Create, Exit, HeapWrite, HeapRead, SharedWrite, SharedRead, Attest, Check, Protect, Retrieve, Report, HandOver, Chain}
+use Rattle.record.specs.Meaning.{bytesIn, wayIn, numberIn, callIn}
 use Rattle.ideal.specs.declared.BoxRecord.{BoxRecord}
 use Rattle.ideal.specs.Layouts.{Sound}
 use Rattle.state.specs.declared.LogTable.{LogTable}
@@ -23,6 +24,7 @@ use Rattle.heap.specs.Narrow.{heapWriteAnswer, heapWriteHeaps, heapReadAnswer, 
 use Rattle.log.specs.Narrow.{attestOn, checkOn}
 use Rattle.escrow.specs.Narrow.{protectOn}
 use Rattle.retrieval.specs.Narrow.{retrieveAnswer, retrieveHeaps}
+use Rattle.chain.specs.Narrow.{chainAnswer}
 use Rattle.soundness.specs.Parts.{tablesOf}
 use Rattle.state.proofs.Edited.{counts-kept}
 use Rattle.log.proofs.Bridge.{attest-edits}
@@ -85,6 +87,13 @@ module _
           ≡ carriedOn (tablesOf b log escrow heaps shared lv ev) (callIn bytes called) output
       unfolding byKind
       retrieved e g h = by-kind s output bytes called (rw (e, g, h))
+
+      pub followed : {i : ℕ} {first : First} {part : Part} {v : List ℕ} → called ≡ Chain i first part → v ≡ bytesIn bytes part
+          → a ≡ chainAnswer b (log .rows) (escrow .rows) lv ev (wayIn first) i (numberIn first) v
+          → resultOf log escrow (unchanged b a) heaps shared lv ev output
+          ≡ carriedOn (tablesOf b log escrow heaps shared lv ev) (callIn bytes called) output
+      unfolding byKind
+      followed e f g = by-kind s output bytes called (rw (e, g, f))
 
       pub reported : called ≡ Report → a ≡ reportOn b
           → resultOf log escrow (unchanged b a) heaps shared lv ev output

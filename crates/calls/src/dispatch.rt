@@ -7,6 +7,7 @@ ghost use Rattle.soundness.specs.Parts.{tablesOf};
 ghost use Rattle.calls.specs.Entry.{resultOf, carriedOn};
 ghost use Rattle.state.specs.Edits.{unchanged, EditsBy};
 ghost use Rattle.calls.specs.Alone.{Alone};
+use chain::follow_chain;
 use escrow::protect;
 use heap::heap_read;
 use heap::heap_write;
@@ -88,6 +89,20 @@ fn answer_alone(
             offset,
             handle,
         } => retrieve(held, escrow, heaps, escrow_values, identity, offset, handle),
+        Call::Chain {
+            identity,
+            first,
+            bytes: part,
+        } => follow_chain(
+            held,
+            log,
+            escrow,
+            log_values,
+            escrow_values,
+            identity,
+            first,
+            bytes_of(bytes, part),
+        ),
         _ => report(held),
     }
 }

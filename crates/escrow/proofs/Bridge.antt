@@ -14,7 +14,7 @@ use Rattle.ideal.specs.Step.{freeHandle, _then_, accept, firstHolding, full, id
 use Rattle.ideal.specs.Tables.{Tables, boxRecord, tables, stateOf}
 use Rattle.ideal.specs.Box.{laid}
 use Rattle.ideal.specs.Valid.{Valid}
-use Rattle.ideal.proofs.Chain.{failed, passed}
+use Rattle.ideal.proofs.Passing.{failed, passed}
 use Rattle.state.specs.Counts.{fullBy, Room}
 use Rattle.state.specs.Edits.{EditsBy, Stored, escrowStore, more}
 use Rattle.state.specs.Parts.{callerOf, heapByte, escrowOf}

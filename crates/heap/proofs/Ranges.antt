@@ -6,7 +6,7 @@ use native.Mathlib.Omega.{arith}
 use lib.Dec.{eqb, ltb}
 use borrow.Author.Tests.{ltb-false, eqb-true, not-false}
 use Rattle.ideal.specs.Step.{beyond}
-use Rattle.ideal.proofs.Chain.{failed, passed}
+use Rattle.ideal.proofs.Passing.{failed, passed}
 use Rattle.state.proofs.Parts.{HeapFits}
 use Rattle.heap.specs.Narrow.{heapRefusal}
 

@@ -20,7 +20,7 @@ use Rattle.lists.proofs.Lists.{same-bytes}
 use Rattle.ideal.proofs.Entries.{isShort, short-entries}
 use Rattle.ideal.proofs.Facts.{output-size}
 use Rattle.ideal.proofs.Laid.{valid-sound, tables-state, call-is}
-use Rattle.ideal.proofs.Chain.{failed}
+use Rattle.ideal.proofs.Passing.{failed}
 use Rattle.ideal.proofs.Runs.{stateBefore, valid-before, caller-before, accepted-at, accepts-at, accepted-call, Accepted, number-at}
 use Rattle.ideal.proofs.Does.{attest-passed}
 use Rattle.ideal.proofs.Logs.{logged-since}
@@ -34,7 +34,7 @@ unfolding refusal tests
 check-named s i g v h = eqb-false i 0 (failed 8 _ _ h)
 
 -- who logs has an identity
-logs-named : (es : List Element) (k i : ℕ) (g : Tag) (v : List ℕ) → LogsAt callOn es i v g k → i ≡ 0 → ⊥
+pub logs-named : (es : List Element) (k i : ℕ) (g : Tag) (v : List ℕ) → LogsAt callOn es i v g k → i ≡ 0 → ⊥
 logs-named es k i g v l e =
     let a = accepted-at es k (attest (l .offset) (l .size)) (l .used) (l .reads) (l .accepts) in
     let w = attest-passed (stateBefore es k) (l .offset) (l .size) (valid-before es k) (a .passes) in

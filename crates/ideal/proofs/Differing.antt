@@ -2,7 +2,7 @@
 use Prim.Native.Nat.{ℕ, zero, suc, _+_, _≤_, _<_}
 use mathlib.Core.Path.{_≡_, refl, sym, ap, _∙_, subst, subst₂}
 use mathlib.Core.Bool.{Bool, true, false}
-use mathlib.Core.List.{List, [], _∷_, map}
+use mathlib.Core.List.{List, [], _∷_, _++_, map, append-nil}
 use native.Mathlib.Omega.{arith}
 use lib.ListN.{length, getD, take}
 use Rattle.record.specs.Call.{Call, heapWrite, protect}
@@ -13,7 +13,7 @@ use Rattle.fnv.specs.Fnv.{little}
 use Rattle.ideal.specs.State.{State, Move, nothing, takes, activates, empties, writes, shares, logs, escrows, fresh, cleared, heapAt, caller, ownPart, any, find, bytesUsed}
 use Rattle.ideal.specs.Step.{accepted, settle, step as carry, onReading, stepOn, effect, refusal, firstHolding, tests, idle, vacant, beyond, full, isEscrowed, found, absent, valueIn, hasHandle, handleOf, next, freeFrom, freeHandle, paired, pairOf, protected, move, apply}
 use Rattle.ideal.specs.Tables.{boxRecord, tables, freshTables}
-use Rattle.ideal.specs.Box.{laid, callOn, elementAt, tablesFrom, tablesAfter, tablesBefore, answerAt}
+use Rattle.ideal.specs.Box.{Element, laid, callOn, elementAt, tablesFrom, tablesAfter, tablesBefore, answerAt}
 use Rattle.ideal.specs.Refusals.{ownBytes}
 use Rattle.ideal.specs.Secrecy.{inside, groupRuns, AlikeAt, same, other-bytes, PremiseAt}
 use Rattle.ideal.specs.Witness.{group, calls, element, elements, PremisesCanBeMet}
@@ -30,12 +30,12 @@ use Rattle.ideal.proofs.Does.{protect-passed}
 
 -- ---- a list of calls, each read back from its record and accepted
 
-data Accepted : State → List Call → Type 0 where
+pub data Accepted : State → List Call → Type 0 where
   none : {s : State} → Accepted s []
   call : {s : State} {c : Call} {cs : List Call} → read (write c) ≡ whole c (length (write c)) → refusal s c ≡ 0
       → Accepted (effect s c) cs → Accepted s (c ∷ cs)
 
-unfoldable after : State → List Call → State
+unfoldable pub after : State → List Call → State
 after s [] = s
 after s (c ∷ cs) = after (effect s c) cs
 
@@ -52,12 +52,12 @@ module _ {s : State} {c : Call} (v : Valid s) (r : read (write c) ≡ whole c (l
   unfolding laid accepted
   code-zero = ap (λ x. x .answer .code) accepted-is
 
-all-valid : {s : State} {cs : List Call} → Valid s → Accepted s cs → Valid (after s cs)
+pub all-valid : {s : State} {cs : List Call} → Valid s → Accepted s cs → Valid (after s cs)
 unfolding after
 all-valid v none = v
 all-valid v (call r p a) = all-valid (valid-effect _ _ v p) a
 
-tables-end : {s : State} {cs : List Call} → Valid s → Accepted s cs
+pub tables-end : {s : State} {cs : List Call} → Valid s → Accepted s cs
     → tablesFrom callOn (tables s) (map element cs) ≡ tables (after s cs)
 unfolding tablesFrom after
 tables-end v none = refl
@@ -76,12 +76,12 @@ codes v (call {cs = cs} r p a) (suc k) l =
 
 -- ---- two lists in step
 
-abbrev Unless : Bool → Type 0 → Type 0
+abbrev pub Unless : Bool → Type 0 → Type 0
 Unless true X = Unit {0}
 Unless false X = X
 
 -- what the premise asks of an accepted call, by its moves in both states
-abbrev Known : Move → Move → Type 0
+abbrev pub Known : Move → Move → Type 0
 Known nothing n = Unit {0}
 Known (takes p i) n = Unit {0}
 Known (activates p) n = Unit {0}
@@ -91,12 +91,12 @@ Known (shares o v) n = Unit {0}
 Known (logs e) n = logs e ≡ n
 Known (escrows e) n = Unless (inside group (e .key .recipient)) (escrows e ≡ n)
 
-data Steps : State → State → List Call → List Call → Type 0 where
+pub data Steps : State → State → List Call → List Call → Type 0 where
   end : {s t : State} → Steps s t [] []
   step : {s t : State} {c d : Call} {cs ds : List Call} → AlikeCalls (held group) s c d → Known (move s c) (move t c)
       → Steps (effect s c) (effect t d) cs ds → Steps s t (c ∷ cs) (d ∷ ds)
 
-alike : {s t : State} {c : Call} {cs ds : List Call} → Known (move s c) (move t c) → Steps (effect s c) (effect t c) cs ds
+pub alike : {s t : State} {c : Call} {cs ds : List Call} → Known (move s c) (move t c) → Steps (effect s c) (effect t c) cs ds
     → Steps s t (c ∷ cs) (c ∷ ds)
 alike {c = c} k rest = step (same-call c) k rest
 
@@ -114,9 +114,10 @@ told {s} {t} k =
           let e : protected s i o n d ≡ protected t i o n d = cc in
           ap (λ x. x .value) e;
       retrieves = λ g i o h q r. and-false (inside group i) _ g;
+      follows = λ g w i x b q left l rest come way some. and-false (inside group (l .identity)) _ g;
     }
 
-whole-call : {c d : Call} {m n : ℕ} → whole c m ≡ whole d n → c ≡ d
+pub whole-call : {c d : Call} {m n : ℕ} → whole c m ≡ whole d n → c ≡ d
 whole-call e = cc
 
 same-used : (p o : ℕ) (v w : List ℕ) → length v ≡ length w
@@ -161,14 +162,17 @@ alike-at (other-call p o v w g n) r r′ =
       outputSize = refl;
     })
 
-indexed : {s t : State} {cs ds : List Call} → SameBut (held group) s t → Valid s → Valid t → Accepted s cs → Accepted t ds
-    → Steps s t cs ds → Indexed callOn group (tables s) (tables t) (map element cs) (map element ds)
-indexed k v w none none end = ended callOn group
-indexed k v w (call r p a) (call r′ p′ b) (step {cs = cs} {ds = ds} l m rest) =
+-- with elements behind them
+pub indexed : {s t : State} {cs ds : List Call} (es fs : List Element) → SameBut (held group) s t → Valid s → Valid t
+    → Accepted s cs → Accepted t ds → Steps s t cs ds → Indexed callOn group (tables (after s cs)) (tables (after t ds)) es fs
+    → Indexed callOn group (tables s) (tables t) (map element cs ++ es) (map element ds ++ fs)
+unfolding after
+indexed es fs k v w none none end more = more
+indexed es fs k v w (call r p a) (call r′ p′ b) (step {cs = cs} {ds = ds} l m rest) more =
     let next = same-effect (held group) k l (told m) p in
     both callOn group (alike-at l r r′) (premise-at k v w r p (told m))
-    (subst₂ (λ x y. Indexed callOn group x y (map element cs) (map element ds)) (sym (next-tables v r p))
-    (sym (next-tables w r′ p′)) (indexed next (valid-effect _ _ v p) (valid-effect _ _ w p′) a b rest))
+    (subst₂ (λ x y. Indexed callOn group x y (map element cs ++ es) (map element ds ++ fs)) (sym (next-tables v r p))
+    (sym (next-tables w r′ p′)) (indexed es fs next (valid-effect _ _ v p) (valid-effect _ _ w p′) a b rest more))
 
 -- ---- the witness
 
@@ -211,8 +215,9 @@ indexed-elements : (a b : ℕ) → Indexed callOn group freshTables freshTables 
 unfolding elements
 indexed-elements a b =
     rw fresh-tables
-    (indexed (same-state (held group) fresh) valid-fresh valid-fresh (computed a b .accepts) (computed b a .accepts)
-    (computed a b .steps))
+    (subst₂ (λ x y. Indexed callOn group (tables fresh) (tables fresh) x y) (append-nil _) (append-nil _)
+    (indexed [] [] (same-state (held group) fresh) valid-fresh valid-fresh (computed a b .accepts) (computed b a .accepts)
+    (computed a b .steps) (ended callOn group)))
 
 pub premises-can-be-met : PremisesCanBeMet callOn
 unfolding tablesBefore tablesAfter

@@ -10,14 +10,14 @@ use lib.Seq.{length-take-le}
 use lib.Dec.{eqb, ltb}
 use borrow.Author.Tests.{lt-ltb, ltb-false, eqb-true, eqb-false, leb-false, not-false}
 use Rattle.record.specs.declared.Draw.{Draw}
-use Rattle.record.specs.Call.{Call, create, exit, heapWrite, heapRead, sharedWrite, sharedRead, attest, check, protect, retrieve, report, handOver}
+use Rattle.record.specs.Call.{Call, create, exit, heapWrite, heapRead, sharedWrite, sharedRead, attest, check, protect, retrieve, report, handOver, chain}
 use Rattle.record.specs.Write.{filled}
 use Rattle.ideal.specs.State.{State, Move, nothing, takes, activates, empties, writes, shares, logs, escrows, identityAt, caller, ownPart, any}
 use Rattle.ideal.specs.Step.{paired, pairOf, full, idle, vacant, beyond, tests, refusal, protected, move}
 use Rattle.ideal.specs.Refusals.{oneOf}
 use Rattle.ideal.specs.Valid.{Valid}
 use Rattle.lists.proofs.Bools.{and-other}
-use Rattle.ideal.proofs.Chain.{failed, passed}
+use Rattle.ideal.proofs.Passing.{failed, passed}
 
 pub own-size : (s : State) (o n : ℕ) → Valid s → s .running < 16 → o + n ≤ 256 → length (ownPart s o n) ≡ n
 unfolding ownPart
@@ -106,3 +106,4 @@ does s (handOver p) k r =
     let low = ltb-false 16 p (failed 5 _ _ r) in
     let there = failed 6 _ _ (passed 5 (ltb 16 p) _ r) in
     does-activate low (λ h. eqb-false (identityAt s p) 0 (and-other (ltb p 16) _ (lt-ltb p 16 h) there))
+does s (chain w i x v) k r = does-nothing

@@ -16,7 +16,7 @@ use Rattle.ideal.specs.Tables.{Tables, tables}
 use Rattle.ideal.specs.Soundness.{differ, samePair}
 use Rattle.ideal.specs.Box.{Element, Result, callOn}
 use Rattle.ideal.specs.Valid.{Valid}
-use Rattle.ideal.specs.Secrecy.{AlikeAt, same, other-bytes, PremiseAt, noneExempt, Secrecy}
+use Rattle.ideal.specs.Secrecy.{AlikeAt, same, other-bytes, PremiseAt, ownChain, Secrecy}
 use Rattle.ideal.specs.Fakes.{kindIn, usedIn, reply, instead, turned, SatisfySecrecy}
 use Rattle.lists.proofs.Bools.{by-cases, and-left, and-right, or-false, or-false-left, or-false-right}
 use Rattle.lists.proofs.Lists.{any-append, any-one, every-more}
@@ -31,10 +31,10 @@ use Rattle.ideal.proofs.Secret.{Related, preserved, related-fresh}
 
 record Keeps (box : Tables → Element → Result) : Type 0 where
   both : {G : ℕ → Bool} {x y : Tables} {e f : Element} → Related G x y → AlikeAt G x e f → PremiseAt box G x y e
-      → Stepped noneExempt box G (Related G) x y e f
+      → Stepped ownChain box G (Related G) x y e f
 
 secret : {box : Tables → Element → Result} → Keeps box → Secrecy box
-secret {box} k G = secrecy-of noneExempt box G (record { agrees = preserved G .agrees; both = k .both }) (related-fresh G)
+secret {box} k G = secrecy-of ownChain box G (record { agrees = preserved G .agrees; both = k .both }) (related-fresh G)
 
 -- the premise speaks of the box's code alone
 premise-as : {box other : Tables → Element → Result} {G : ℕ → Bool} {x y : Tables} {e : Element}
@@ -71,7 +71,7 @@ keeps-answer m h =
 -- a box that does at a call what another does
 as-other : {box other : Tables → Element → Result} {G : ℕ → Bool} {x y : Tables} {e f : Element} → Keeps other
     → box x e ≡ other x e → box y f ≡ other y f → Related G x y → AlikeAt G x e f → PremiseAt box G x y e
-    → Stepped noneExempt box G (Related G) x y e f
+    → Stepped ownChain box G (Related G) x y e f
 as-other k u v r a p =
     let o = k .both r a (premise-as (ap (λ z. z .answer .code) u) p) in
     record { answer = rw (u, v) (o .answer); after = rw (u, v) (o .after) }

@@ -14,17 +14,17 @@ use borrow.Author.Tests.{eqb-true, eqb-false, ne-eqb, eq-eqb}
 use Rattle.fnv.specs.declared.Tag.{Tag}
 use Rattle.record.specs.declared.Handle.{Handle}
 use Rattle.record.specs.declared.Draw.{Draw}
-use Rattle.record.specs.Call.{Call, create, exit, heapWrite, heapRead, sharedWrite, sharedRead, attest, check, protect, retrieve, report, handOver}
+use Rattle.record.specs.Call.{Call, create, exit, heapWrite, heapRead, sharedWrite, sharedRead, attest, check, protect, retrieve, report, handOver, chain}
 use Rattle.record.specs.Read.{Reading, refused, whole, read}
 use Rattle.record.specs.Write.{filled}
 use Rattle.ideal.specs.State.{Move, any}
-use Rattle.ideal.specs.Step.{Answer, logged, number}
+use Rattle.ideal.specs.Step.{Link, Answer, logged, number}
 use Rattle.ideal.specs.Tables.{Tables, freshTables}
 use Rattle.ideal.specs.Box.{Element, Result, callOn, elementAt, tablesFrom, answersFrom, tablesAfter, tablesBefore, answerAt}
 use Rattle.ideal.specs.Refusals.{callerIn, ownBytes, oneOf, numberAt}
 use Rattle.ideal.specs.Answers.{plainNumber, Answered}
 use Rattle.ideal.specs.History.{moveSeen, added, pastFrom, pastOf, Shows}
-use Rattle.ideal.specs.Accuracy.{Earlier, LogsAt, ProtectsAt, ProtectedBefore, HandsOut}
+use Rattle.ideal.specs.Accuracy.{Earlier, LogsAt, ProtectsAt, ProtectedBefore, HandsOut, Runs, LinkValue, Vouched, was-logged, was-escrowed, Custody}
 use Rattle.ideal.specs.Demands.{Demand1, Demand2}
 use Rattle.ideal.specs.Fixed.{FixedByTwo, Fixed}
 use Rattle.lists.proofs.Bools.{by-cases}
@@ -93,6 +93,7 @@ same-event (protect i o m d) t w x n f = refl
 same-event (retrieve i o h) t w x n f = rw (f i o h refl)
 same-event report t w x n f = refl
 same-event (handOver p) t w x n f = refl
+same-event (chain a i y v) t w x n f = refl
 
 -- ---- what a refused and an accepted call add to the past
 
@@ -170,6 +171,24 @@ module _ {a b : Box} {es : List Element} {k : ℕ} (h : SameTo a b es k) where
       let p = protects-too a b es j (h .tables j (omega arith)) (h .answers j l) (x .there) in
       let q = ap (λ y. callerIn y) (h .tables k (omega arith)) in
       record { index = j; before = l; there = subst (λ r. ProtectsAt b es i r g v j) q p }
+
+  vouched-too : {g : LinkValue} → Vouched a es k g → Vouched b es k g
+  vouched-too (was-logged w x) = was-logged w (logged-too x)
+  vouched-too (was-escrowed w x) = was-escrowed w (protected-too x)
+
+  custody-too : {first : Link} {v : List ℕ} {n : ℕ} → Custody a es k first v n → Custody b es k first v n
+  custody-too c =
+      record {
+        links = c .links;
+        count = c .count;
+        least = c .least;
+        most = c .most;
+        begins = c .begins;
+        leads = c .leads;
+        ends = c .ends;
+        vouched = λ j l. vouched-too (c .vouched j l);
+        bytes = c .bytes;
+      }
 
 module _ (box : Box) (two : Demand2 box) where
   pub same-code : (t : Tables) (e : Element) → box t e .answer .code ≡ callOn t e .answer .code
@@ -278,6 +297,14 @@ module _ (box : Box) (two : Demand2 box) where
         let x = d .no .0 (z, m) in
         c .no .1 (x .0, x .1, λ l. x .2 (logged-too h l)) .1 ∙ sym m)
 
+    chain-is : (w i x : ℕ) (v : List ℕ) (used : ℕ) → read (e .bytes) ≡ whole (chain w i x v) used
+        → answerAt callOn es k .code ≡ 0 → answerAt box es k .number ≡ answerAt callOn es k .number
+    chain-is w i x v used q z =
+        let n = answerAt callOn es k .number in
+        let y = demands .two .chains es k w i x v used q n .0 (z, refl) in
+        let runs : Runs box es k = λ r. y .1 (ap (λ u. u .box .running) (sym before) ∙ r) in
+        two .chains es k w i x v used q n .1 (y .0, runs, custody-too (back h) (y .2)) .1
+
     handle-is : (i o n : ℕ) (d : Draw) (used : ℕ) → read (e .bytes) ≡ whole (protect i o n d) used
         → answerAt callOn es k .code ≡ 0 → answerAt box es k .number ≡ answerAt callOn es k .number
     unfolding answerAt
@@ -322,6 +349,7 @@ module _ (box : Box) (two : Demand2 box) where
     number-is (retrieve i o a) used q z = let x = both i o a used q z in x .r .accepts .1 ∙ sym (x .s .accepts .1)
     number-is report used q z = report-is used q z
     number-is (handOver p) used q z = plain _ used q z _ refl
+    number-is (chain w i x v) used q z = chain-is w i x v used q z
 
     shown-is : (c : Call) (used : ℕ) → read (e .bytes) ≡ whole c used → answerAt callOn es k .code ≡ 0
         → answerAt box es k .shown ≡ answerAt callOn es k .shown
@@ -342,6 +370,7 @@ module _ (box : Box) (two : Demand2 box) where
     shown-is (retrieve i o a) used q z = none _ used q z refl
     shown-is report used q z = none _ used q z refl
     shown-is (handOver p) used q z = none _ used q z refl
+    shown-is (chain w i x v) used q z = none _ used q z refl
 
     when-accepted : (c : Call) (used : ℕ) → read (e .bytes) ≡ whole c used → answerAt callOn es k .code ≡ 0
         → SameTo box callOn es (suc k)

@@ -8,7 +8,7 @@ use lib.ListN.{length}
 use Rattle.ideal.specs.Tables.{Tables}
 use Rattle.ideal.specs.Box.{Element, Result, callOn, elementAt, tablesBefore}
 use Rattle.ideal.specs.Demands.{Demand1, Demand2}
-use Rattle.ideal.specs.Secrecy.{AlikeLists, Premise, EqualOutside, noneExempt}
+use Rattle.ideal.specs.Secrecy.{AlikeLists, Premise, EqualOutside, ownChain}
 use Rattle.ideal.specs.Fixed.{SecrecyFollows}
 use Rattle.ideal.proofs.Secret.{secrecy}
 use Rattle.ideal.proofs.FixedRuns.{same-code, tables-at, answers-at, fixed}
@@ -27,7 +27,7 @@ module _ (box : Tables → Element → Result) (one : Demand1 box) (two : Demand
               q .protects g i o m d used r x (same-code box two (tablesBefore callOn es k) (elementAt es k) ∙ z);
         }
 
-    equal : length es ≡ length fs → EqualOutside callOn G es fs noneExempt → EqualOutside box G es fs noneExempt
+    equal : length es ≡ length fs → EqualOutside callOn G es fs ownChain → EqualOutside box G es fs ownChain
     equal n q =
         record {
           answers = λ k b. rw (tables-at box one two es k b, answers-at box one two es k b, answers-at box one two fs k (omega arith)) (q .answers k b);

@@ -8,7 +8,7 @@ use lib.ListN.{length, getD, take}
 use lib.Dec.{eqb, eqb·suc-zero}
 use borrow.Author.Tests.{ltb-false, eqb-true, not-false}
 use Rattle.record.specs.declared.Handle.{Handle}
-use Rattle.record.specs.Call.{Call, create, exit, heapWrite, heapRead, sharedWrite, sharedRead, attest, check, protect, retrieve, report, handOver}
+use Rattle.record.specs.Call.{Call, create, exit, heapWrite, heapRead, sharedWrite, sharedRead, attest, check, protect, retrieve, report, handOver, chain}
 use Rattle.record.specs.Read.{Reading, refused, whole, read}
 use Rattle.ideal.specs.State.{State, Move, writes, fresh, heapAt, ownPart, bytesUsed}
 use Rattle.ideal.specs.Step.{found, valueIn, tests, refusal, beyond, protected, move, apply, effect, number, shown, refuse, refusedAnswer, accepted, settle, step, onReading, stepOn}
@@ -18,7 +18,7 @@ use Rattle.ideal.specs.Refusals.{ownBytes}
 use Rattle.ideal.specs.History.{moveSeen, added, pastFrom, pastOf, holder, ones, pairs, protects, AsThePast, Shows, HistoryHolds, Accepts, Reports}
 use Rattle.ideal.proofs.Accepts.{Accepted, accepted-of}
 use Rattle.lists.proofs.Bools.{by-cases}
-use Rattle.ideal.proofs.Chain.{failed, passed}
+use Rattle.ideal.proofs.Passing.{failed, passed}
 use Rattle.ideal.specs.Valid.{Valid}
 use Rattle.ideal.proofs.Does.{busy, own-size, attest-passed, protect-passed, does}
 use Rattle.ideal.proofs.Laid.{sound-tables, stepElement, fresh-tables, call-is}
@@ -59,6 +59,7 @@ event-is s (protect i o n d) k r =
 event-is s (retrieve i o a) k r = ap (writes (s .running) o) (retrieved s i o a k r)
 event-is s report k r = refl
 event-is s (handOver p) k r = refl
+event-is s (chain w i x v) k r = refl
 
 -- ---- the tables of a state are as the past says
 

@@ -1,6 +1,6 @@
 pub mod Lists
 pub mod Unique
-pub mod Chain
+pub mod Passing
 pub mod Conditions
 pub mod ReaderNumbers
 pub mod MissingBytes
@@ -10,6 +10,9 @@ pub mod Heaps
 pub mod Memory
 pub mod OwnHeap
 pub mod HeapBytes
+pub mod FoundRows
+pub mod Heads
+pub mod Links
 pub mod CallNumbers
 pub mod Entries
 pub mod Does
@@ -33,8 +36,11 @@ pub mod Logs
 pub mod Escrows
 pub mod Checks
 pub mod Retrieves
-pub mod Accurate
 pub mod TwoEscrows
+pub mod Following
+pub mod Followed
+pub mod Custodies
+pub mod Accurate
 pub mod TwoStates
 pub mod TwoRuns
 pub mod Secret
@@ -49,4 +55,5 @@ pub mod Faked
 pub mod FakedSecret
 pub mod Steered
 pub mod Differing
+pub mod Exempted
 pub mod Examined

@@ -19,7 +19,7 @@ use Rattle.ideal.specs.Refusals.{oneOf, width, ends, cutField, passed, w
 use Rattle.lists.proofs.Bools.{by-cases, or-false-left, or-false-right}
 use Rattle.ideal.proofs.Conditions.{firstOf, first-of}
 use Rattle.ideal.proofs.ReaderNumbers.{upTo, missing-is}
-use Rattle.ideal.proofs.Numbers.{call-passes, each-number, refusals-alter-nothing}
+use Rattle.ideal.proofs.Numbers.{call-every, call-passes, each-number, refusals-alter-nothing}
 
 -- ---- the ends of the fields
 
@@ -162,12 +162,12 @@ module _ (t : Tables) (size : ℕ) where
 
   not-one : (bs : List ℕ) → firstOf (onCall t (read bs)) ≡ 1 → ⊥
   unfolding every callConditions
-  not-one bs e = eqb-false _ 1 (not-true _ (call-passes t (λ m. not (eqb m 1)) refl (λ c. refl) (read bs))) e
+  not-one bs e = eqb-false _ 1 (not-true _ (call-passes t (λ m. not (eqb m 1)) refl (call-every (λ m. not (eqb m 1)) refl refl t) (read bs))) e
 
   first-tested : (map kind : ℕ) (rest : List ℕ)
       → let bs : List ℕ = map ∷ kind ∷ rest in
       firstOf (conditions t (given bs))
-      ≡ tested (sizesRight t size && sound t) (stands map 0) (ltb 14 kind || oneOf (0 ∷ 2 ∷ 3 ∷ []) kind) (isMap map (mapOf kind)) (cutField bs)
+      ≡ tested (sizesRight t size && sound t) (stands map 0) (ltb 15 kind || oneOf (0 ∷ 2 ∷ 3 ∷ []) kind) (isMap map (mapOf kind)) (cutField bs)
       (firstOf (onCall t (read bs)))
   unfolding conditions readerConditions firstOf tested
   first-tested map kind rest =

@@ -7,18 +7,30 @@ use lib.Dec.{eqb}
 use borrow.Author.Tests.{eqb-false, ne-eqb, not-true}
 use Rattle.record.specs.Call.{Call}
 use Rattle.record.specs.Read.{Reading, refused, whole, read}
+use Rattle.record.specs.Write.{filled}
 use Rattle.ideal.specs.State.{State, any, every}
-use Rattle.ideal.specs.Step.{refusal, refusedAnswer, refuse, accepted, settle, step, onReading, stepOn}
+use Rattle.ideal.specs.Step.{Link, refusal, refusedAnswer, refuse, accepted, settle, step, onReading, stepOn}
 use Rattle.ideal.specs.Tables.{Tables, tables, stateOf}
 use Rattle.ideal.specs.Soundness.{sizesRight, sound}
 use Rattle.ideal.specs.Box.{Element, laid, unsound, callOn, outputAfter}
 use Rattle.ideal.specs.Layouts.{Sound}
-use Rattle.ideal.specs.Refusals.{oneOf, readerConditions, callConditions, onCall, conditions, unread, was-read, numberAt, Refused, EachNumber, RefusalsAlterNothing, NeverFive}
+use Rattle.ideal.specs.Refusals.{oneOf, readerConditions, chainConditions, callConditions, onCall, conditions, unread, was-read, numberAt, Refused, EachNumber, RefusalsAlterNothing, NeverFive}
 use Rattle.lists.proofs.Bools.{by-cases, and-left, and-right, or-false-left}
 use Rattle.ideal.proofs.Laid.{valid-sound, state-tables, tables-state}
 use Rattle.ideal.proofs.Conditions.{firstOf, first-of, first-among}
 use Rattle.ideal.proofs.ReaderNumbers.{seen, numbered, read-seen}
+use Rattle.ideal.proofs.Links.{every-cond, chain-every}
 use Rattle.ideal.proofs.CallNumbers.{call-first}
+
+-- what holds of the numbers of a call's conditions, of the rising ones and of those of a chain's links, holds of each
+pub call-every : (p : ℕ → Bool) → every p (4 ∷ 6 ∷ 7 ∷ 8 ∷ 9 ∷ 10 ∷ 11 ∷ 12 ∷ 13 ∷ 14 ∷ []) ≡ true
+    → every p (9 ∷ 18 ∷ 19 ∷ 20 ∷ []) ≡ true → (t : Tables) (c : Call) → every (λ x. p (x .0)) (callConditions t c) ≡ true
+unfolding every callConditions
+call-every p g h t c =
+    let f = filled c .fields in
+    let first : Link = record { way = f .place; identity = f .identity; number = f .number } in
+    let bs = filled c .bytes in
+    rw (every-cond (λ x. p (x .0)) (eqb (filled c .kind) 15) (chainConditions t 17 0 first bs) (chain-every p h t 17 0 first bs)) g
 
 -- at these no bytes count as used
 abbrev pub readNumbers : List ℕ
@@ -42,10 +54,11 @@ module _ (t : Tables) (n : ℕ) (h : Sound t n) where
 
   -- no call is refused with a number of the reader's, or with 15
   call-number : (c : Call) → oneOf readNumbers (refusal (stateOf t) c) ≡ false
-  unfolding every callConditions firstOf oneOf any
+  unfolding every firstOf oneOf any
   call-number c =
-      let k = first-among (λ m. not (oneOf readNumbers m)) (callConditions t c) [] refl refl in
-      ap (oneOf readNumbers) (refusal-first c) ∙ not-true _ k
+      let p : ℕ → Bool = λ m. not (oneOf readNumbers m) in
+      let k = first-among p (callConditions t c) [] (call-every p refl refl t c) refl in
+      ap (oneOf readNumbers) (refusal-first c) ∙ not-true _ (rw append-nil at k)
 
   reading-code : (bs : List ℕ) (r : Reading) → onReading (stateOf t) r .answer .code ≡ seen r (numbered bs (firstOf (onCall t r))) .0
   unfolding onReading refuse refusedAnswer step seen onCall
@@ -83,7 +96,7 @@ unfolding notFive every conditions readerConditions callConditions
 never-five t e h =
     let bs = e .bytes in
     let reader : List (ℕ × Bool) = (15, not (sizesRight t (e .outputSize) && sound t)) ∷ readerConditions bs in
-    let k = first-among notFive reader (onCall t (read bs)) refl (call-passes t notFive refl (λ c. refl) (read bs)) in
+    let k = first-among notFive reader (onCall t (read bs)) refl (call-passes t notFive refl (call-every notFive refl refl t) (read bs)) in
     eqb-false _ 5 (not-true _ k) (sym (call-code t e) ∙ h)
 
 -- ---- what a refusal leaves

@@ -1,37 +1,35 @@
 -- What one accepted call leaves and answers on any sound box. Assumes nothing.
 use Prim.Native.Nat.{ℕ, zero, suc, _+_, _*_, _-_, _^_, _≤_, _<_}
 use mathlib.Core.Path.{_≡_, refl, sym, ap, _∙_}
-use mathlib.Core.Bool.{Bool, false, not, _||_, cond}
+use mathlib.Core.Bool.{false, not, cond}
 use mathlib.Core.List.{List, [], _∷_, _++_}
 use mathlib.Core.Option.{Option, none, some}
 use native.Mathlib.Omega.{arith}
 use lib.ListN.{length, getD, set}
 use lib.Dec.{eqb, ltb}
 use borrow.Author.Tests.{ltb-false, eqb-true, eqb-false, eq-eqb, ne-eqb, not-false}
-use Rattle.fnv.specs.declared.Tag.{Tag}
 use Rattle.record.specs.declared.Handle.{Handle}
-use Rattle.record.specs.Call.{Call, create, exit, heapWrite, heapRead, sharedWrite, sharedRead, attest, check, protect, retrieve, report, handOver}
+use Rattle.record.specs.Call.{Call, create, exit, heapWrite, heapRead, sharedWrite, sharedRead, attest, check, protect, retrieve, report, handOver, chain}
 use Rattle.record.specs.Read.{whole, read}
-use Rattle.ideal.specs.declared.LogRow.{LogRow}
-use Rattle.ideal.specs.declared.EscrowRow.{EscrowRow}
-use Rattle.ideal.specs.State.{Entry, Logged, Escrowed, State, cleared, identityAt, caller, ownPart, any, find, bytesUsed}
-use Rattle.ideal.specs.Step.{isLogged, paired, logged, full, withPair, pairOf, isEscrowed, found, valueIn, protected, vacant, beyond, tests, refusal, move, apply, effect, number, shown, accepted}
-use Rattle.ideal.specs.Tables.{Tables, escrowTable, logTable, entryOf, entriesOf, takenMap, boxRecord, tables, usedLog, usedEscrow, stateOf}
+use Rattle.ideal.specs.State.{Entry, Logged, Escrowed, State, cleared, identityAt, caller, ownPart, any, bytesUsed}
+use Rattle.ideal.specs.Step.{paired, full, withPair, pairOf, found, valueIn, protected, vacant, beyond, tests, refusal, move, apply, effect, number, shown, accepted}
+use Rattle.ideal.specs.Tables.{Tables, takenMap, boxRecord, tables, usedLog, stateOf}
 use Rattle.ideal.specs.Box.{Element, laid, callOn}
 use Rattle.ideal.specs.Valid.{Valid}
-use Rattle.ideal.specs.Refusals.{callerIn, isRow, holdsPair, lengthIn}
+use Rattle.ideal.specs.Refusals.{callerIn, holdsPair, lengthIn, rowFor}
 use Rattle.ideal.specs.History.{ones}
-use Rattle.ideal.specs.OneCall.{withPlacesIn, withShared, withLogRow, withEscrowRow, isLogRow, rowFor, bytesIn, leaves, countedNumber, shows, Done, OneCall}
+use Rattle.ideal.specs.OneCall.{withPlacesIn, withShared, withLogRow, withEscrowRow, leaves, countedNumber, shows, Done, OneCall}
 use Rattle.lists.proofs.Bools.{by-cases, and-other, not-is, or-false-left, or-false-right}
-use Rattle.ideal.proofs.Chain.{failed, passed}
+use Rattle.ideal.proofs.Passing.{failed, passed}
 use Rattle.ideal.proofs.Does.{busy, own-size, AttestPassed, attest-passed, protect-passed}
-use Rattle.ideal.proofs.Table.{log-lawful, escrow-lawful, entries-back}
+use Rattle.ideal.proofs.Table.{log-lawful, escrow-lawful}
 use Rattle.ideal.proofs.Kept.{cleared-length}
 use Rattle.ideal.proofs.More.{row-added, value-added, counts-raised}
 use Rattle.ideal.proofs.Memory.{ones-taken}
 use Rattle.ideal.proofs.OwnHeap.{sized, own-bytes, own-written}
 use Rattle.ideal.proofs.HeapBytes.{flat-set}
-use Rattle.ideal.proofs.CallNumbers.{pair-rows, found-row}
+use Rattle.ideal.proofs.FoundRows.{pair-rows, found-row, value-found, log-found}
+use Rattle.ideal.proofs.Links.{chain-count}
 use Rattle.ideal.proofs.Laid.{state-tables}
 use Rattle.ideal.proofs.Numbers.{each-number, refusals-alter-nothing}
 use Rattle.ideal.proofs.Accepts.{on-state, accepted-answers}
@@ -96,22 +94,6 @@ module _ (s : State) where
   escrow-more e q r =
       rw (counts-raised (s .escrow) e, row-added escrow-lawful (s .escrow) e (r .rows), value-added (s .escrow) e (r .bytes), ← q)
 
--- ---- rows that are found
-
-found-bytes : (p : Escrowed → Bool) (q : EscrowRow → Bool) (values : List ℕ) (rows : List EscrowRow)
-    → ((r : EscrowRow) → p (entryOf escrowTable values r) ≡ q r)
-    → valueIn (find p (entriesOf escrowTable values rows)) ≡ bytesIn values (find q rows)
-unfolding find entriesOf valueIn bytesIn
-found-bytes p q values [] h = refl
-found-bytes p q values (r ∷ rows) h =
-    by-cases (q r) (λ b. rw (h r, b)) (λ b. rw (h r, b) (found-bytes p q values rows h))
-
-logged-rows : (i : ℕ) (g : Tag) (v values : List ℕ) (rows : List LogRow)
-    → any (isLogged i g v) (entriesOf logTable values rows) ≡ any (isLogRow values i g v) rows
-unfolding any entriesOf isLogged isLogRow
-logged-rows i g v values [] = refl
-logged-rows i g v values (r ∷ rows) = ap (λ b. isLogRow values i g v r || b) (logged-rows i g v values rows)
-
 none-some : {n : ℕ} → _≡_ {A = Option ℕ} none (some n) → ⊥
 none-some q = let z : _≡_ {A = ℕ} 0 1 = cc in omega arith
 
@@ -121,24 +103,10 @@ the-some q = cc
 -- ---- what is left
 
 module _ (s : State) (k : Valid s) where
-  -- the value that a retrieve finds
-  value-found : (i : ℕ) (h : Handle) → valueIn (found s i h) ≡ bytesIn (tables s .escrowValues) (rowFor (tables s) i h)
-  unfolding found rowFor isRow isEscrowed tables boxRecord
-  value-found i h =
-      ap (λ l. valueIn (find (isEscrowed h i (caller s)) l)) (sym (entries-back escrow-lawful (s .escrow)))
-      ∙ found-bytes (isEscrowed h i (caller s)) (isRow h i (caller s)) (tables s .escrowValues) (usedEscrow (tables s)) (λ r. refl)
-
-  log-found : (i : ℕ) (g : Tag) (v : List ℕ)
-      → logged i g v (s .log) ≡ any (isLogRow (tables s .logValues) i g v) (usedLog (tables s))
-  unfolding logged tables boxRecord
-  log-found i g v =
-      ap (any (isLogged i g v)) (sym (entries-back log-lawful (s .log)))
-      ∙ logged-rows i g v (tables s .logValues) (usedLog (tables s))
-
   pair-there : (v : List ℕ)
       → any (holdsPair (tables s .logValues) (callerIn (tables s)) v) (usedLog (tables s)) ≡ paired (caller s) v (s .log)
   unfolding tables boxRecord
-  pair-there v = sym (pair-rows s (state-tables s k) k (caller s) v)
+  pair-there v = sym (pair-rows s (state-tables s k) (caller s) v)
 
   attest-leaves : (o n : ℕ) → AttestPassed s o n → tables (effect s (attest o n)) ≡ leaves (tables s) (number s (attest o n)) (attest o n)
   unfolding effect move apply withPair leaves number
@@ -184,17 +152,18 @@ module _ (s : State) (k : Valid s) where
       rw (own-bytes s k (a .runs) o n (a .fits))
       (escrow-more s (protected s i o n d) refl (rw size (room (s .escrow) n (k .escrow .few) (a .room))))
   leaves-is (retrieve i o h) r =
-      rw (← value-found i h)
+      rw (← value-found s i h)
       (own-written s k (busy s k (failed 3 _ _ r)) o (valueIn (found s i h))
       (ltb-false 256 _ (failed 10 _ _ (passed 9 _ _ (passed 8 _ _ (passed 3 _ _ r))))))
   leaves-is report r = unfold apply in refl
   leaves-is (handOver p) r = unfold apply tables boxRecord withPlacesIn in refl
+  leaves-is (chain w i x v) r = unfold apply in refl
 
   -- ---- what is answered
 
   length-found : (i : ℕ) (h : Handle) → length (valueIn (found s i h)) ≡ lengthIn (rowFor (tables s) i h)
   unfolding rowFor lengthIn valueIn
-  length-found i h = found-row s (state-tables s k) k lengthIn (λ x. length (valueIn x)) refl (λ e at. refl) i h
+  length-found i h = found-row s (state-tables s k) lengthIn (λ x. length (valueIn x)) refl (λ e at. refl) i h
 
   counts : number s report ≡ ones 16 (tables s .box .taken) + 256 * tables s .box .log .rows + 65536 * tables s .box .escrow .rows
   unfolding number tables boxRecord
@@ -209,11 +178,13 @@ module _ (s : State) (k : Valid s) where
   counted (sharedWrite o v) n q = absurd (none-some q)
   counted (sharedRead o m) n q = absurd (none-some q)
   counted (attest o m) n q = absurd (none-some q)
-  counted (check i g v) n q = ap (λ b. cond b 1 0) (log-found i g v) ∙ the-some q
+  counted (check i g v) n q = ap (λ b. cond b 1 0) (log-found s i g v) ∙ the-some q
   counted (protect i o m d) n q = absurd (none-some q)
   counted (retrieve i o h) n q = length-found i h ∙ the-some q
   counted report n q = counts ∙ the-some q
   counted (handOver p) n q = absurd (none-some q)
+  counted (chain w i x v) n q =
+      chain-count s (state-tables s k) 16 (record { way = w; identity = i; number = x }) v ∙ the-some q
 
   shows-is : (c : Call) → refusal s c ≡ 0 → shown s c ≡ shows (tables s) c
   unfolding shown shows refusal tests beyond
@@ -231,6 +202,7 @@ module _ (s : State) (k : Valid s) where
   shows-is (retrieve i o h) r = refl
   shows-is report r = refl
   shows-is (handOver p) r = refl
+  shows-is (chain w i x v) r = refl
 
 -- ---- the promise, of the definition
 

@@ -34,10 +34,10 @@ use Rattle.ideal.proofs.Checks.{same-cond}
 -- ---- what a retrieve finds
 
 -- the running program finds v from the source under the handle
-record Finds (s : State) (source : ℕ) (h : Handle) (v : List ℕ) : Type 0 where
-  entry : Escrowed
-  is : found s source h ≡ some entry
-  value : entry .value ≡ v
+pub record Finds (s : State) (source : ℕ) (h : Handle) (v : List ℕ) : Type 0 where
+  pub entry : Escrowed
+  pub is : found s source h ≡ some entry
+  pub value : entry .value ≡ v
 
 like : (h : Handle) (i r : ℕ) (a b : Escrowed) → isEscrowed h i r a ≡ true → isEscrowed h i r b ≡ true
     → sameHandle a b ≡ true
@@ -75,7 +75,7 @@ held-found s i h v valid = rw (← sought-held h i (caller s) v (s .escrow)) (to
     from f = found-any p q (s .escrow) (f .entry) (f .is) (rw (f .value) (same-bytes-refl v))
 
 -- it is found where an earlier accepted protect escrowed it for the running program
-found-since : (es : List Element) (k i : ℕ) (h : Handle) (v : List ℕ)
+pub found-since : (es : List Element) (k i : ℕ) (h : Handle) (v : List ℕ)
     → Finds (stateBefore es k) i h v ↔ ProtectedBefore callOn es k i h v
 found-since es k i h v =
     let held = held-found (stateBefore es k) i h v (valid-before es k) in
@@ -85,11 +85,11 @@ found-since es k i h v =
 -- ---- the call at an index
 
 -- who protects has an identity, and so has whom it is for
-record Named (i r : ℕ) : Type 0 where
-  source : i ≡ 0 → ⊥
-  recipient : r ≡ 0 → ⊥
+pub record Named (i r : ℕ) : Type 0 where
+  pub source : i ≡ 0 → ⊥
+  pub recipient : r ≡ 0 → ⊥
 
-protects-named : (es : List Element) (k i r : ℕ) (h : Handle) (v : List ℕ) → ProtectsAt callOn es i r h v k → Named i r
+pub protects-named : (es : List Element) (k i r : ℕ) (h : Handle) (v : List ℕ) → ProtectsAt callOn es i r h v k → Named i r
 protects-named es k i r h v l =
     let a = accepted-at es k (protect r (l .offset) (l .size) (l .draw)) (l .used) (l .reads) (l .accepts) in
     let w = protect-passed (stateBefore es k) r (l .offset) (l .size) (l .draw) (valid-before es k) (a .passes) in

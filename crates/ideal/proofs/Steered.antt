@@ -1,7 +1,7 @@
 -- Where a heap byte steers the handle, two alike lists get different handles: demand 3 fails. Assumes nothing.
 use Prim.Native.Nat.{ℕ, zero, suc, _+_, _^_, _≤_, _<_}
 use mathlib.Core.Path.{_≡_, refl, sym, ap, _∙_}
-use mathlib.Core.Bool.{Bool, true}
+use mathlib.Core.Bool.{Bool, true, false}
 use mathlib.Core.List.{List, [], _∷_, map}
 use native.Mathlib.Omega.{arith}
 use lib.ListN.{length}
@@ -17,10 +17,10 @@ use Rattle.ideal.specs.State.{fresh, cleared, ownPart, any, bytesUsed}
 use Rattle.ideal.specs.Step.{full, hasHandle, handleOf, next, freeFrom, freeHandle, firstHolding, idle, vacant, beyond, tests, refusal, protected, move, apply, effect, number, shown, accepted, settle, step, onReading, stepOn}
 use Rattle.ideal.specs.Tables.{Tables, flat, boxRecord, tables}
 use Rattle.ideal.specs.Box.{Element, laid, callOn, elementAt, tablesFrom, tablesAfter, tablesBefore, answerAt}
-use Rattle.ideal.specs.Secrecy.{inside, groupRuns, AlikeAt, same, other-bytes, AlikeLists, PremiseAt, Premise}
+use Rattle.ideal.specs.Secrecy.{inside, groupRuns, AlikeAt, same, other-bytes, AlikeLists, PremiseAt, Premise, isChain, ownChain}
 use Rattle.ideal.specs.Witness.{element}
 use Rattle.ideal.specs.Fakes.{kindIn, steered, byteSteers, TellsTheByte}
-use Rattle.lists.proofs.Bools.{clash}
+use Rattle.lists.proofs.Bools.{clash, and-false}
 use Rattle.ideal.proofs.Laid.{stepElement, call-is}
 use Rattle.ideal.proofs.Runs.{stateFrom, stateBefore, valid-before, tables-before}
 use Rattle.ideal.proofs.FixedRuns.{tables-next}
@@ -172,9 +172,14 @@ module _ (c : Computed) where
       ap (λ x. callOn x (steered x (elementAt es 3)) .answer .number) t
       ∙ ap (λ r. r .answer .number) (call-is (stateBefore es 3) (steered (tables (stateBefore es 3)) (elementAt es 3)) (valid-before es 3))
 
+-- a protect is no chain
+no-chain : (t : Tables) → ownChain group t (elementAt (elements 0) 3) ≡ false
+unfolding ownChain isChain filled
+no-chain t = and-false (groupRuns group t) _ (ap isChain (computed .reads₃ 0))
+
 pub tells-the-byte : TellsTheByte
 tells-the-byte secret =
     let c = computed in
-    let same = secret group (elements 0) (elements 1) (alike c) (premise c) .answers 3 (omega (arith, c .size 0)) .number refl in
+    let same = secret group (elements 0) (elements 1) (alike c) (premise c) .answers 3 (omega (arith, c .size 0)) .number (no-chain _) in
     let z : 2 ^ 48 + 7 ≡ 2 ^ 48 + 8 = sym (told c 0 ∙ c .handle₁) ∙ same ∙ told c 1 ∙ c .handle₂ in
     omega arith

@@ -1,9 +1,9 @@
 -- Two escrows that agree but for the values under some keys. Assumes nothing.
 use Prim.Native.Nat.{ℕ, zero, suc}
-use mathlib.Core.Path.{_≡_, refl, ap}
-use mathlib.Core.Bool.{Bool, true, false}
+use mathlib.Core.Path.{_≡_, refl, sym, ap}
+use mathlib.Core.Bool.{Bool, true, false, false≢true}
 use mathlib.Core.List.{List, [], _∷_, _++_}
-use mathlib.Core.Option.{Option}
+use mathlib.Core.Option.{Option, none, some}
 use lib.ListN.{length, getD}
 use lib.Dec.{eqb}
 use borrow.Author.Tests.{eqb-true}
@@ -28,6 +28,13 @@ pub record SameFound (secret : Bool) (x y : Option Escrowed) : Type 0 where
   pub absent : absent x ≡ absent y
   pub size : length (valueIn x) ≡ length (valueIn y)
   pub value : secret ≡ false → valueIn x ≡ valueIn y
+
+-- where nothing is found, there is nothing that is secret
+pub same-absent : {secret : Bool} (x y : Option Escrowed) → SameFound secret x y → absent x ≡ true → SameFound false x y
+unfolding absent valueIn
+same-absent none none f a = record { absent = refl; size = refl; value = λ _. refl }
+same-absent none (some r) f a = absurd (false≢true (sym (f .absent)))
+same-absent (some r) y f a = absurd (false≢true a)
 
 module _ (secret : EscrowKey → Bool) where
   pub same-escrow : (l : List Escrowed) → SameEscrow secret l l

@@ -11,10 +11,11 @@ use lib.Dec.{eqb}
 use borrow.Author.Tests.{eqb-true, eqb-false}
 use Rattle.record.specs.declared.Handle.{Handle}
 use Rattle.record.specs.declared.Draw.{Draw}
-use Rattle.record.specs.Call.{Call, heapWrite, attest, protect, retrieve}
+use Rattle.record.specs.Call.{Call, heapWrite, attest, protect, retrieve, chain}
 use Rattle.ideal.specs.State.{EscrowKey, Logged, Escrowed, State, Move, nothing, takes, activates, empties, writes, shares, logs, escrows, cleared, identityAt, heapAt, caller, part, ownPart}
-use Rattle.ideal.specs.Step.{found, idle, vacant, refusal, withPair, protected, withPlaces, withCommon, apply}
+use Rattle.ideal.specs.Step.{Link, found, absent, idle, vacant, refusal, withPair, protected, withPlaces, withCommon, apply}
 use Rattle.lists.proofs.Bools.{by-cases}
+use Rattle.ideal.proofs.Following.{Comes}
 use Rattle.ideal.proofs.TwoEscrows.{SameEntry, SameEscrow, SameFound, same-escrow, same-more, same-find}
 
 -- ---- lists
@@ -74,13 +75,18 @@ pub data AlikeCalls (z : Secrets) (s : State) : Call → Call → Type 0 where
   other-call : (p o : ℕ) (v w : List ℕ) → z .heap (s .running) (caller s) ≡ true → length v ≡ length w
       → AlikeCalls z s (heapWrite p o v) (heapWrite p o w)
 
--- a call that makes no secret known: neither by an attest or a protect, nor by a retrieve into an open heap
+-- a call that makes no secret known: neither by an attest or a protect, nor, where the heap is open, by a retrieve or a chain
 pub record NoneTold (z : Secrets) (s t : State) (c : Call) : Type 0 where
   pub attests : z .heap (s .running) (caller s) ≡ true → (o n : ℕ) → c ≡ attest o n → o + n ≤ 256 → ownPart s o n ≡ ownPart t o n
   pub protects : z .heap (s .running) (caller s) ≡ true → (i o n : ℕ) (d : Draw) → c ≡ protect i o n d
       → z .value (protected s i o n d .key) ≡ false → refusal s c ≡ 0 → ownPart s o n ≡ ownPart t o n
   pub retrieves : z .heap (s .running) (caller s) ≡ false → (i o : ℕ) (h : Handle) → c ≡ retrieve i o h → refusal s c ≡ 0
       → z .value (record { source = i; recipient = caller s; handle = h }) ≡ false
+  pub follows : z .heap (s .running) (caller s) ≡ false → (w i x : ℕ) (v : List ℕ) → c ≡ chain w i x v
+      → (left : ℕ) (l : Link) (rest : List ℕ)
+      → Comes (s .log) (found s) (record { way = w; identity = i; number = x }) v (suc left) l rest → l .way ≡ 3
+      → absent (found s (l .identity) (record { 0 = l .number })) ≡ false
+      → z .value (record { source = l .identity; recipient = caller s; handle = record { 0 = l .number } }) ≡ false
 
 module _ (z : Secrets) {s t : State} (k : SameBut z s t) where
   -- ---- what both states share

@@ -1,19 +1,19 @@
--- Demand 2: what a check and a retrieve say about the calls since a fresh box, on the host's tables.
-use Prim.Native.Nat.{ℕ, zero, suc, _+_, _*_, _≤_, _<_}
+-- Demand 2: what a check, a retrieve and a chain say about the calls since a fresh box, on the host's tables.
+use Prim.Native.Nat.{ℕ, zero, suc, _+_, _*_, _-_, _≤_, _<_}
 use mathlib.Core.Path.{_≡_}
 use mathlib.Core.Logic.{_↔_}
 use mathlib.Core.Bool.{Bool, true, false}
-use mathlib.Core.List.{List}
-use lib.ListN.{length}
+use mathlib.Core.List.{List, [], _∷_, _++_}
+use lib.ListN.{length, getD}
 use lib.Seq.{sets}
 use lib.Dec.{eqb}
 use Rattle.fnv.specs.declared.Tag.{Tag}
 use Rattle.record.specs.declared.Handle.{Handle}
 use Rattle.record.specs.declared.Draw.{Draw}
-use Rattle.record.specs.Call.{attest, check, protect, retrieve}
-use Rattle.record.specs.Read.{whole, read}
-use Rattle.ideal.specs.State.{any}
-use Rattle.ideal.specs.Step.{handleOf, next}
+use Rattle.record.specs.Call.{attest, check, protect, retrieve, chain}
+use Rattle.record.specs.Read.{whole, read, fromLittle}
+use Rattle.ideal.specs.State.{part, any}
+use Rattle.ideal.specs.Step.{handleOf, next, Link}
 use Rattle.ideal.specs.Tables.{Tables, usedEscrow}
 use Rattle.ideal.specs.Box.{Element, Result, elementAt, tablesBefore, answerAt}
 use Rattle.ideal.specs.Layouts.{Sound}
@@ -37,6 +37,34 @@ withOwnBytes t offset v =
       escrowRows = t .escrowRows;
       escrowValues = t .escrowValues;
     }
+
+-- ---- links of a chain (document 02, P3)
+
+-- a link, and the value that stands there
+pub record LinkValue : Type 0 where
+  pub link : Link
+  pub value : List ℕ
+
+-- stands where a list has no such link
+unfoldable pub noLink : LinkValue
+noLink = record { link = record { way = 0; identity = 0; number = 0 }; value = [] }
+
+unfoldable pub linkAt : List LinkValue → ℕ → LinkValue
+linkAt ls j = getD ls j noLink
+
+-- the head of a value names the next link: its way, its identity in 8 bytes, its tag or handle in 8 bytes
+pub record Names (v : List ℕ) (k : Link) : Type 0 where
+  pub way : getD v 0 0 ≡ k .way
+  pub long : 17 ≤ length v
+  pub identity : fromLittle (part v 1 8) ≡ k .identity
+  pub number : fromLittle (part v 9 8) ≡ k .number
+
+-- these chain bytes are the values of the logged links, in order, each after its count of 2 bytes, and nothing else
+pub data ChainBytes : List LinkValue → List ℕ → Type 0 where
+  no-links : ChainBytes [] []
+  logged-link : {h : LinkValue} {hs : List LinkValue} {bs : List ℕ} (count : List ℕ) → h .link .way ≡ 2 → length count ≡ 2
+      → fromLittle count ≡ length (h .value) → ChainBytes hs bs → ChainBytes (h ∷ hs) (count ++ (h .value ++ bs))
+  escrowed-link : {h : LinkValue} {hs : List LinkValue} {bs : List ℕ} → h .link .way ≡ 3 → ChainBytes hs bs → ChainBytes (h ∷ hs) bs
 
 module _ (box : Tables → Element → Result) (es : List Element) where
   -- at this index the program i logs the bytes v and gets the tag
@@ -99,6 +127,25 @@ module _ (box : Tables → Element → Result) (es : List Element) where
     pub too-far : (v : List ℕ) → ProtectedBefore k source handle v
         → (answerAt box es k .code ≡ 11) ↔ (Sized k × (256 < offset + length v))
 
+  -- a link's value was logged before k by that identity under that tag, or escrowed by it for the program that runs at k
+  -- under that handle
+  pub data Vouched (k : ℕ) (h : LinkValue) : Type 0 where
+    was-logged : h .link .way ≡ 2 → Earlier (LogsAt (h .link .identity) (h .value) (record { 0 = h .link .number })) k → Vouched k h
+    was-escrowed : h .link .way ≡ 3 → ProtectedBefore k (h .link .identity) (record { 0 = h .link .number }) (h .value) → Vouched k h
+
+  -- a chain of n links, the first of which is so named, that ends, with these chain bytes
+  pub record Custody (k : ℕ) (first : Link) (chainBytes : List ℕ) (n : ℕ) : Type 0 where
+    pub links : List LinkValue
+    pub count : length links ≡ n
+    pub least : 1 ≤ n
+    pub most : n ≤ 16
+    pub begins : linkAt links 0 .link ≡ first
+    -- each next link is named by the head of the one before, and the last one's head is 1
+    pub leads : (j : ℕ) → suc j < n → Names (linkAt links j .value) (linkAt links (suc j) .link)
+    pub ends : getD (linkAt links (n - 1) .value) 0 0 ≡ 1
+    pub vouched : (j : ℕ) → j < n → Vouched k (linkAt links j)
+    pub bytes : ChainBytes links chainBytes
+
 -- f taken k times, from x
 unfoldable pub iterate : (ℕ → ℕ) → ℕ → ℕ → ℕ
 iterate f zero x = x
@@ -134,6 +181,13 @@ module _ (box : Tables → Element → Result) where
   abbrev pub RetrieveIsAccurate : Type 0
   RetrieveIsAccurate = (es : List Element) (k source offset : ℕ) (handle : Handle) (used : ℕ)
       → read (elementAt es k .bytes) ≡ whole (retrieve source offset handle) used → RetrieveAt box es k source offset handle
+
+  -- a chain is accepted with n exactly when a program runs and there are n such links
+  abbrev pub ChainIsAccurate : Type 0
+  ChainIsAccurate = (es : List Element) (k way identity number : ℕ) (v : List ℕ) (used : ℕ)
+      → read (elementAt es k .bytes) ≡ whole (chain way identity number v) used → (n : ℕ)
+      → Says box es n k
+      ↔ (Sized box es k × Runs box es k × Custody box es k (record { way = way; identity = identity; number = number }) v n)
 
   -- no handle is given twice
   abbrev pub HandleOnce : Type 0

@@ -6,7 +6,7 @@ use mathlib.Core.List.{[], _∷_}
 use mathlib.Core.Option.{Option, none, some}
 use lib.ListN.{length}
 use Rattle.fnv.specs.Fnv.{tagOf}
-use Rattle.record.specs.Call.{Call, create, exit, heapWrite, heapRead, sharedWrite, sharedRead, attest, check, protect, retrieve, report, handOver}
+use Rattle.record.specs.Call.{Call, create, exit, heapWrite, heapRead, sharedWrite, sharedRead, attest, check, protect, retrieve, report, handOver, chain}
 use Rattle.record.specs.Read.{whole, read}
 use Rattle.record.specs.Write.{filled}
 use Rattle.ideal.specs.Step.{Answer}
@@ -14,7 +14,7 @@ use Rattle.ideal.specs.Tables.{Tables}
 use Rattle.ideal.specs.Box.{Element, Result}
 use Rattle.ideal.specs.Refusals.{callerIn, ownBytes, oneOf}
 
--- none where the number is the history's to say: check, protect, retrieve (specs/Accuracy.antt), report (specs/History.antt)
+-- none where the number is the history's to say: check, protect, retrieve, chain (specs/Accuracy.antt), report (specs/History.antt)
 unfoldable pub plainNumber : Tables → Call → Option ℕ
 plainNumber t (create p i) = some p
 plainNumber t exit = some 0
@@ -28,6 +28,7 @@ plainNumber t (protect i o n d) = none
 plainNumber t (retrieve i o h) = none
 plainNumber t report = none
 plainNumber t (handOver p) = some 0
+plainNumber t (chain w i x v) = none
 
 pub record Answered (t : Tables) (c : Call) (size : ℕ) (a : Answer) : Type 0 where
   pub number : (n : ℕ) → plainNumber t c ≡ some n → a .number ≡ n

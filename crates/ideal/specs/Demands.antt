@@ -4,7 +4,7 @@ use Rattle.ideal.specs.Box.{Element, Result}
 use Rattle.ideal.specs.Refusals.{EachNumber, RefusalsAlterNothing, NeverFive, NumberOnlyWithOne, MissingIsExact}
 use Rattle.ideal.specs.Answers.{AcceptedAnswers}
 use Rattle.ideal.specs.History.{HistoryHolds, Reports}
-use Rattle.ideal.specs.Accuracy.{CheckIsAccurate, LongCheckIsNo, RetrieveIsAccurate, HandleOnce, HandleIsFirstFree}
+use Rattle.ideal.specs.Accuracy.{CheckIsAccurate, LongCheckIsNo, RetrieveIsAccurate, ChainIsAccurate, HandleOnce, HandleIsFirstFree}
 use Rattle.ideal.specs.Secrecy.{Secrecy}
 
 module _ (box : Tables → Element → Result) where
@@ -23,6 +23,7 @@ module _ (box : Tables → Element → Result) where
     pub checks : CheckIsAccurate box
     pub long-checks : LongCheckIsNo box
     pub retrieves : RetrieveIsAccurate box
+    pub chains : ChainIsAccurate box
     pub handles-once : HandleOnce box
     pub handles-free : HandleIsFirstFree box
     pub holds : HistoryHolds box

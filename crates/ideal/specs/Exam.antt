@@ -1,4 +1,4 @@
--- Document 01's exam cases A to J and those of requests P1 and P2 in one list of records, every kind among them, with the
+-- Document 01's exam cases A to J and those of requests P1 to P3 in one list of records, every kind among them, with the
 -- whole answers.
 use Prim.Native.Nat.{ℕ, zero, suc, _/_, _%_, _^_}
 use mathlib.Core.Path.{_≡_}
@@ -57,8 +57,14 @@ questions =
     ∷ hex 9 0x4B_05_00_0000_0500_7661 gives says 1 3 0 []
     -- before contents of the highest count
     ∷ hex 20 0x65_0A_0807060504030201_BA0E7BEC312B1C54_FFFF gives says 1 65535 0 []
+    -- before the count of a chain
+    ∷ hex 19 0x67_0F_02_0807060504030201_3CA3801F61600596 gives says 1 2 0 []
     -- another map, with a field cut
     ∷ hex 2 0x47_01 gives says 3 0 0 []
+    -- a chain with the map of a check
+    ∷ hex 2 0x65_0F gives says 3 0 0 []
+    -- kind 16
+    ∷ hex 2 0x67_10 gives says 2 0 0 []
     -- no such kind, with a field cut
     ∷ hex 2 0x07_00 gives says 2 0 0 []
     -- create: place 0 for 0x0102030405060708
@@ -137,6 +143,8 @@ questions =
     ∷ hex 3 0x03_0E_10 gives says 0 0 3 []
     -- exit: none runs
     ∷ hex 2 0x01_04 gives says 4 0 2 []
+    -- a chain by way 1, with identity 0: none runs
+    ∷ hex 21 0x67_0F_01_0000000000000000_0700000000000500_0000 gives says 4 0 21 []
     -- report: two services, two log rows, four escrow rows
     ∷ hex 2 0x01_0D gives says 0 262658 2 []
     -- hand over: place 0
@@ -161,6 +169,60 @@ questions =
     ∷ hex 3 0x03_0E_0F gives says 0 0 3 []
     -- heap read: nothing is left
     ∷ hex 7 0x1B_06_0F_FA00_0600 gives says 0 6 7 (hex 6 0x000000000000)
+    -- heap write: a value that ends a chain
+    ∷ hex 8 0x4B_05_0F_0000_0100_01 gives says 0 1 8 []
+    -- attest it
+    ∷ hex 6 0x19_09_0000_0100 gives says 0 10810152450829361980 6 []
+    -- a chain of one link
+    ∷ hex 24 0x67_0F_02_0807060504030201_3CA3801F61600596_0300_010001 gives says 0 1 24 []
+    -- heap write: a value that leads to it
+    ∷ hex 24 0x4B_05_0F_0100_1100_0208070605040302013CA3801F61600596 gives says 0 17 24 []
+    -- attest that
+    ∷ hex 6 0x19_09_0100_1100 gives says 0 1818366074921597567 6 []
+    -- a chain of two logged links
+    ∷ hex 43 0x67_0F_02_0807060504030201_7FBA529F4F223C19_1600_11000208070605040302013CA3801F61600596010001 gives says 0 2 43 []
+    -- protect it for the program itself, draw 9
+    ∷ hex 22 0x3D_0B_0807060504030201_0100_1100_0900000000000000 gives says 0 4785074604081161 22 []
+    -- a chain of an escrowed link and a logged one
+    ∷ hex 24 0x67_0F_03_0807060504030201_0900000000001100_0300_010001 gives says 0 2 24 []
+    -- heap write: a value that names its own handle
+    ∷ hex 24 0x4B_05_0F_0100_1100_0308070605040302010A00000000001100 gives says 0 17 24 []
+    -- protect it, draw 10
+    ∷ hex 22 0x3D_0B_0807060504030201_0100_1100_0A00000000000000 gives says 0 4785074604081162 22 []
+    -- it leads to itself: sixteen have been followed
+    ∷ hex 21 0x67_0F_03_0807060504030201_0A00000000001100_0000 gives says 20 0 21 []
+    -- way 1
+    ∷ hex 24 0x67_0F_01_0807060504030201_3CA3801F61600596_0300_010001 gives says 19 0 24 []
+    -- the second logged value's contents are cut
+    ∷ hex 43 0x67_0F_02_0807060504030201_7FBA529F4F223C19_1600_11000208070605040302013CA3801F61600596020001 gives says 19 0 43 []
+    -- its count is cut
+    ∷ hex 41 0x67_0F_02_0807060504030201_7FBA529F4F223C19_1400_11000208070605040302013CA3801F6160059601 gives says 19 0 41 []
+    -- cut, and identity 0
+    ∷ hex 21 0x67_0F_02_0000000000000000_3CA3801F61600596_0000 gives says 19 0 21 []
+    -- identity 0
+    ∷ hex 24 0x67_0F_02_0000000000000000_3CA3801F61600596_0300_010001 gives says 9 0 24 []
+    -- the tag of other bytes
+    ∷ hex 24 0x67_0F_02_0807060504030201_7FBA529F4F223C19_0300_010001 gives says 18 0 24 []
+    -- a tag that was never given, though it is the right one
+    ∷ hex 25 0x67_0F_02_0807060504030201_A76095870802C66B_0400_02000101 gives says 18 0 25 []
+    -- no such row
+    ∷ hex 21 0x67_0F_03_0807060504030201_0E00000000001100_0000 gives says 18 0 21 []
+    -- A's row, which is for another program
+    ∷ hex 21 0x67_0F_03_0807060504030201_0700000000000500_0000 gives says 18 0 21 []
+    -- the head of the five bytes
+    ∷ hex 28 0x67_0F_02_0807060504030201_BA0E7BEC312B1C54_0700_050076616C7565 gives says 19 0 28 []
+    -- bytes are left over
+    ∷ hex 25 0x67_0F_02_0807060504030201_3CA3801F61600596_0400_01000100 gives says 19 0 25 []
+    -- heap write: a value that leads to the first, with a byte of payload
+    ∷ hex 25 0x4B_05_0F_0100_1200_0208070605040302013CA3801F6160059601 gives says 0 18 25 []
+    -- attest it but for its last two bytes
+    ∷ hex 6 0x19_09_0100_1000 gives says 0 18309538361562728083 6 []
+    -- 15 bytes follow the 2
+    ∷ hex 39 0x67_0F_02_0807060504030201_938655BA218C18FE_1200_10000208070605040302013CA3801F616005 gives says 19 0 39 []
+    -- attest all of it
+    ∷ hex 6 0x19_09_0100_1200 gives says 0 3740463016627594266 6 []
+    -- a chain of two links, the first with payload
+    ∷ hex 44 0x67_0F_02_0807060504030201_1AE492B94BCBE833_1700_12000208070605040302013CA3801F6160059601010001 gives says 0 2 44 []
     ∷ []
 
 unfoldable pub asked : List Element

@@ -1,7 +1,8 @@
 -- The fakes that document 01 names under "What the buyer won't accept". Demand 2 shuts out each, though each satisfies
--- secrecy; and demand 3 shuts out a definition in which a heap byte steers the handle.
+-- secrecy; and demand 3 shuts out a definition in which a heap byte steers the handle, and those in which a number tells one
+-- where it is compared.
 use Prim.Native.Nat.{ℕ, _+_, _*_, _%_}
-use mathlib.Core.Bool.{cond}
+use mathlib.Core.Bool.{cond, _&&_}
 use mathlib.Core.List.{[], reverse}
 use lib.ListN.{getD, set}
 use lib.Dec.{eqb, ltb}
@@ -10,6 +11,7 @@ use Rattle.record.specs.Write.{filled}
 use Rattle.ideal.specs.Step.{withCommon}
 use Rattle.ideal.specs.Tables.{Tables, tables, stateOf}
 use Rattle.ideal.specs.Box.{Element, Result, callOn}
+use Rattle.ideal.specs.Refusals.{callerIn}
 use Rattle.ideal.specs.Secrecy.{Secrecy}
 use Rattle.ideal.specs.Demands.{Demand2}
 
@@ -113,3 +115,29 @@ byteSteers t e = callOn t (steered t e)
 
 abbrev pub TellsTheByte : Type 0
 TellsTheByte = Secrecy byteSteers → ⊥
+
+-- ---- a number tells a heap byte
+
+-- the definition, but for the calls of one kind while the caller is `who`, 0 where none runs: their number, where they are
+-- refused too, is the first byte of place 0's heap
+unfoldable pub tells : (kind who : ℕ) → Tables → Element → Result
+tells kind who t e =
+    let r = callOn t e in
+    let told = eqb (kindIn (read (e .bytes))) kind && eqb (callerIn t) who in
+    record {
+      tables = r .tables;
+      answer =
+          record {
+            code = r .answer .code;
+            number = cond told (getD (t .heaps) 0 0) (r .answer .number);
+            used = r .answer .used;
+            shown = r .answer .shown;
+          };
+    }
+
+-- demand 3 exempts chains of group programs and nothing else: it shuts out a box that tells the byte by the chain of a program
+-- outside the group, by a chain while none runs, or by a group program's own check
+pub record NoOtherExempt : Type 0 where
+  pub outsider : Secrecy (tells 15 3) → ⊥
+  pub nobody : Secrecy (tells 15 0) → ⊥
+  pub own-check : Secrecy (tells 10 1) → ⊥

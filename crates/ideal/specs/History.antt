@@ -6,7 +6,7 @@ use mathlib.Core.List.{List, [], _∷_, _++_}
 use lib.ListN.{length, getD, take}
 use lib.Dec.{eqb, ltb, leb}
 use Rattle.record.specs.Layout.{stands}
-use Rattle.record.specs.Call.{Call, create, exit, heapWrite, heapRead, sharedWrite, sharedRead, attest, check, protect, retrieve, report, handOver}
+use Rattle.record.specs.Call.{Call, create, exit, heapWrite, heapRead, sharedWrite, sharedRead, attest, check, protect, retrieve, report, handOver, chain}
 use Rattle.record.specs.Read.{Reading, refused, whole, read}
 use Rattle.ideal.specs.declared.LogRow.{LogRow}
 use Rattle.ideal.specs.declared.EscrowRow.{EscrowRow}
@@ -34,6 +34,7 @@ moveSeen t u n (protect i o m d) =
 moveSeen t u n (retrieve i o h) = writes (t .box .running) o (ownBytes u o n)
 moveSeen t u n report = nothing
 moveSeen t u n (handOver p) = activates p
+moveSeen t u n (chain w i x v) = nothing
 
 unfoldable pub added : Tables → Result → Reading → List Move → List Move
 added t r (refused code number) past = past

@@ -1,24 +1,22 @@
 -- What is promised of one call on any sound box, hand-made ones included: its number, and what an accepted call leaves and
 -- answers, said from the host's tables before it. That fixes the call.
-use Prim.Native.Nat.{ℕ, _+_, _*_, _-_, _^_}
+use Prim.Native.Nat.{ℕ, zero, suc, _+_, _*_, _-_, _^_}
 use mathlib.Core.Path.{_≡_}
-use mathlib.Core.Bool.{Bool, _&&_, cond}
+use mathlib.Core.Bool.{cond}
 use mathlib.Core.List.{List, []}
 use mathlib.Core.Option.{Option, none, some}
 use lib.ListN.{length, set}
 use lib.Seq.{sets}
-use lib.Dec.{eqb}
-use Rattle.fnv.specs.declared.Tag.{Tag}
-use Rattle.record.specs.declared.Handle.{Handle}
-use Rattle.record.specs.Call.{Call, create, exit, heapWrite, heapRead, sharedWrite, sharedRead, attest, check, protect, retrieve, report, handOver}
+use Rattle.record.specs.Call.{Call, create, exit, heapWrite, heapRead, sharedWrite, sharedRead, attest, check, protect, retrieve, report, handOver, chain}
 use Rattle.record.specs.Read.{whole, read}
 use Rattle.ideal.specs.declared.Used.{Used}
 use Rattle.ideal.specs.declared.LogRow.{LogRow}
 use Rattle.ideal.specs.declared.EscrowRow.{EscrowRow}
-use Rattle.ideal.specs.State.{cleared, part, any, find, sameBytes}
-use Rattle.ideal.specs.Tables.{Tables, usedLog, usedEscrow}
+use Rattle.ideal.specs.State.{cleared, part, any}
+use Rattle.ideal.specs.Step.{Link}
+use Rattle.ideal.specs.Tables.{Tables, usedLog}
 use Rattle.ideal.specs.Box.{Element, Result, callOn}
-use Rattle.ideal.specs.Refusals.{callerIn, ownBytes, isRow, holdsPair, lengthIn, EachNumber, RefusalsAlterNothing}
+use Rattle.ideal.specs.Refusals.{callerIn, ownBytes, holdsPair, lengthIn, bytesIn, rowFor, isLogRow, valueAt, leftAt, leadsOn, namedIn, EachNumber, RefusalsAlterNothing}
 use Rattle.ideal.specs.Answers.{AcceptedAnswers}
 use Rattle.ideal.specs.History.{ones}
 use Rattle.ideal.specs.Accuracy.{withOwnBytes, HandleIsFirstFree}
@@ -108,21 +106,15 @@ withEscrowRow t recipient handle v =
       escrowValues = sets (t .escrowValues) (u .bytes) v;
     }
 
--- ---- rows
+-- ---- a chain
 
--- (identity, tag, bytes) is this log row
-unfoldable pub isLogRow : List ℕ → ℕ → Tag → List ℕ → LogRow → Bool
-isLogRow values i g v r =
-    eqb (r .identity) i && (eqb (r .tag .0) (g .0) && sameBytes (part values (r .first) (r .length)) v)
-
--- the escrow row with this handle and source, and the caller as recipient
-unfoldable pub rowFor : Tables → (source : ℕ) → Handle → Option EscrowRow
-rowFor t source h = find (isRow h source (callerIn t)) (usedEscrow t)
-
--- the bytes of its value
-unfoldable pub bytesIn : List ℕ → Option EscrowRow → List ℕ
-bytesIn values none = []
-bytesIn values (some r) = part values (r .first) (r .length)
+-- how many links it has from this one on, at most `most`
+unfoldable pub linkCount : Tables → (most : ℕ) → Link → List ℕ → ℕ
+linkCount t zero k bs = 0
+linkCount t (suc most) k bs =
+    let v = valueAt t k bs in
+    let later = linkCount t most (namedIn v) (leftAt k bs) in
+    1 + cond (leadsOn v) later 0
 
 -- ---- an accepted call
 
@@ -145,6 +137,7 @@ leaves t n (protect i o m d) = withEscrowRow t i n (ownBytes t o m)
 leaves t n (retrieve i o h) = withOwnBytes t o (bytesIn (t .escrowValues) (rowFor t i h))
 leaves t n report = t
 leaves t n (handOver p) = withPlacesIn t (t .box .taken) p (t .box .identities) (t .heaps)
+leaves t n (chain w i x v) = t
 
 -- the numbers that the rows and the counts say; the others are in specs/Answers.antt, and a protect's is the first free handle
 unfoldable pub countedNumber : Tables → Call → Option ℕ
@@ -160,6 +153,7 @@ countedNumber t (protect i o m d) = none
 countedNumber t (retrieve i o h) = some (lengthIn (rowFor t i h))
 countedNumber t report = some (ones 16 (t .box .taken) + 256 * t .box .log .rows + 65536 * t .box .escrow .rows)
 countedNumber t (handOver p) = none
+countedNumber t (chain w i x v) = some (linkCount t 16 (record { way = w; identity = i; number = x }) v)
 
 unfoldable pub shows : Tables → Call → List ℕ
 shows t (create p i) = []
@@ -174,6 +168,7 @@ shows t (protect i o m d) = []
 shows t (retrieve i o h) = []
 shows t report = []
 shows t (handOver p) = []
+shows t (chain w i x v) = []
 
 pub record Done (t : Tables) (c : Call) (r : Result) : Type 0 where
   pub leaves : r .tables ≡ leaves t (r .answer .number) c

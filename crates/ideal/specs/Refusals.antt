@@ -1,13 +1,14 @@
 -- Demand 1: which number is given when, said a second time, by number as document 01 lists them and on the host's
--- tables; what a refused call leaves; and how many bytes a cut record misses (document 02, P2).
-use Prim.Native.Nat.{ℕ, suc, _+_, _*_, _-_, _<_, _^_}
+-- tables; what a refused call leaves; how many bytes a cut record misses (document 02, P2); a chain link by link (P3).
+use Prim.Native.Nat.{ℕ, zero, suc, _+_, _*_, _-_, _<_, _^_}
 use mathlib.Core.Path.{_≡_}
 use mathlib.Core.Logic.{_↔_}
 use mathlib.Core.Bool.{Bool, true, false, not, _&&_, _||_, cond}
 use mathlib.Core.List.{List, [], _∷_, _++_}
 use mathlib.Core.Option.{Option, none, some}
-use lib.ListN.{length, getD}
+use lib.ListN.{length, getD, drop}
 use lib.Dec.{eqb, ltb, leb}
+use Rattle.fnv.specs.declared.Tag.{Tag}
 use Rattle.record.specs.declared.Handle.{Handle}
 use Rattle.record.specs.Call.{Call}
 use Rattle.record.specs.Layout.{stands, OrRefusal, gives, refuses, mapOf}
@@ -16,6 +17,7 @@ use Rattle.record.specs.Write.{filled}
 use Rattle.ideal.specs.declared.LogRow.{LogRow}
 use Rattle.ideal.specs.declared.EscrowRow.{EscrowRow}
 use Rattle.ideal.specs.State.{part, any, find, sameBytes}
+use Rattle.ideal.specs.Step.{Link}
 use Rattle.ideal.specs.Tables.{Tables, usedLog, usedEscrow}
 use Rattle.ideal.specs.Soundness.{sizesRight, sound}
 use Rattle.ideal.specs.Box.{Element, Result, outputAfter}
@@ -79,7 +81,7 @@ readerConditions bs =
     (1, eqb (length bs) 0)
     ∷ (2, not (stands map 0))
     ∷ (1, eqb (length bs) 1)
-    ∷ (2, ltb 14 kind || oneOf (0 ∷ 2 ∷ 3 ∷ []) kind)
+    ∷ (2, ltb 15 kind || oneOf (0 ∷ 2 ∷ 3 ∷ []) kind)
     ∷ (3, not (isMap map (mapOf kind)))
     ∷ (1, cutField bs)
     ∷ []
@@ -100,6 +102,68 @@ unfoldable pub lengthIn : Option EscrowRow → ℕ
 lengthIn none = 0
 lengthIn (some r) = r .length
 
+-- the bytes of its value
+unfoldable pub bytesIn : List ℕ → Option EscrowRow → List ℕ
+bytesIn values none = []
+bytesIn values (some r) = part values (r .first) (r .length)
+
+-- the escrow row with this handle and source, and the caller as recipient
+unfoldable pub rowFor : Tables → (source : ℕ) → Handle → Option EscrowRow
+rowFor t source h = find (isRow h source (callerIn t)) (usedEscrow t)
+
+-- (identity, tag, bytes) is this log row
+unfoldable pub isLogRow : List ℕ → ℕ → Tag → List ℕ → LogRow → Bool
+isLogRow values i g v r =
+    eqb (r .identity) i && (eqb (r .tag .0) (g .0) && sameBytes (part values (r .first) (r .length)) v)
+
+-- ---- a chain, link by link
+
+-- the count before the next logged value in the chain bytes
+abbrev pub countAt : List ℕ → ℕ
+countAt bs = fromLittle (part bs 0 2)
+
+-- a link's value: the next in the chain bytes where it is logged (2), else that of the escrow row
+unfoldable pub valueAt : Tables → Link → List ℕ → List ℕ
+valueAt t k bs =
+    cond (eqb (k .way) 2) (part bs 2 (countAt bs))
+    (bytesIn (t .escrowValues) (rowFor t (k .identity) (record { 0 = k .number })))
+
+-- the chain bytes behind it
+unfoldable pub leftAt : Link → List ℕ → List ℕ
+leftAt k bs = cond (eqb (k .way) 2) (drop (2 + countAt bs) bs) bs
+
+-- a head with 2 or 3 has 16 bytes behind that: the next link's identity, and its tag or handle
+unfoldable pub leadsOn : List ℕ → Bool
+leadsOn v = (eqb (getD v 0 0) 2 || eqb (getD v 0 0) 3) && ltb 16 (length v)
+
+abbrev pub namedIn : List ℕ → Link
+namedIn v = record { way = getD v 0 0; identity = fromLittle (part v 1 8); number = fromLittle (part v 9 8) }
+
+-- the conditions of a link that comes after n others
+unfoldable pub linkConditions : Tables → (n : ℕ) → Link → List ℕ → List (ℕ × Bool)
+linkConditions t n k bs =
+    let v = valueAt t k bs in
+    let ends = eqb (getD v 0 0) 1 in
+    let kept = any (isLogRow (t .logValues) (k .identity) (record { 0 = k .number }) v) (usedLog t) in
+    let row = rowFor t (k .identity) (record { 0 = k .number }) in
+    (20, eqb n 16)
+    ∷ (19, not (eqb (k .way) 2 || eqb (k .way) 3) || (eqb (k .way) 2 && ltb (length bs) (2 + countAt bs)))
+    ∷ (9, eqb (k .identity) 0)
+    ∷ (18, cond (eqb (k .way) 2) (not kept) (isAbsent row))
+    ∷ (19, not (ends || leadsOn v))
+    ∷ (19, ends && not (eqb (length (leftAt k bs)) 0))
+    ∷ []
+
+-- those of this link and of the links after it, of `most` in all
+unfoldable pub chainConditions : Tables → (most n : ℕ) → Link → List ℕ → List (ℕ × Bool)
+chainConditions t zero n k bs = []
+chainConditions t (suc most) n k bs =
+    let v = valueAt t k bs in
+    let later = chainConditions t most (suc n) (namedIn v) (leftAt k bs) in
+    linkConditions t n k bs ++ cond (leadsOn v) later []
+
+-- ---- each call
+
 unfoldable pub callConditions : Tables → Call → List (ℕ × Bool)
 callConditions t c =
     let b = t .box in
@@ -107,9 +171,10 @@ callConditions t c =
     let f = filled c .fields in
     let size = f .length + length (filled c .bytes) in
     let taken = stands (b .taken) (f .place) in
-    let row = find (isRow (record { 0 = f .number }) (f .identity) (callerIn t)) (usedEscrow t) in
+    let first : Link = record { way = f .place; identity = f .identity; number = f .number } in
+    let row = rowFor t (f .identity) (record { 0 = f .number }) in
     let pair = any (holdsPair (t .logValues) (callerIn t) (ownBytes t (f .offset) (f .length))) (usedLog t) in
-    (4, oneOf (4 ∷ 5 ∷ 6 ∷ 9 ∷ 11 ∷ 12 ∷ []) kind && eqb (b .running) 16)
+    (4, oneOf (4 ∷ 5 ∷ 6 ∷ 9 ∷ 11 ∷ 12 ∷ 15 ∷ []) kind && eqb (b .running) 16)
     ∷ (6, (oneOf (1 ∷ 5 ∷ 6 ∷ []) kind && ltb 15 (f .place)) || (eqb kind 14 && ltb 16 (f .place)))
     ∷ (7, (eqb kind 1 && taken) || (eqb kind 14 && (ltb (f .place) 16 && not taken)))
     ∷ (8, oneOf (5 ∷ 6 ∷ []) kind && not (eqb (f .place) (b .running)))
@@ -128,13 +193,14 @@ callConditions t c =
           && (not pair && (eqb (b .log .rows) 64 || ltb 4096 (b .log .bytes + f .length))),
     )
     ∷ (14, eqb kind 11 && (eqb (b .escrow .rows) 64 || ltb 4096 (b .escrow .bytes + f .length)))
-    ∷ []
+    -- a seventeenth link has its 20
+    ∷ cond (eqb kind 15) (chainConditions t 17 0 first (filled c .bytes)) []
 
 unfoldable pub onCall : Tables → Reading → List (ℕ × Bool)
 onCall t (refused code number) = []
 onCall t (whole c used) = callConditions t c
 
--- order: 15; then the reader's; then rising numbers
+-- order: 15; then the reader's; then rising numbers, a chain's link by link
 unfoldable pub conditions : Tables → Element → List (ℕ × Bool)
 conditions t e =
     (15, not (sizesRight t (e .outputSize) && sound t)) ∷ (readerConditions (e .bytes) ++ onCall t (read (e .bytes)))

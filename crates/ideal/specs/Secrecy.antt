@@ -1,4 +1,5 @@
--- Demand 3, as document 01's "Two runs compared" writes it: one claim about two whole lists.
+-- Demand 3, as document 01's "Two runs compared" writes it: one claim about two whole lists. Code and number of a group
+-- program's own chain calls are not compared (document 02, P3); their bytes used are.
 use Prim.Native.Nat.{ℕ, _+_, _*_, _≤_, _<_}
 use mathlib.Core.Path.{_≡_}
 use mathlib.Core.Bool.{Bool, true, false, not, _&&_}
@@ -7,7 +8,8 @@ use lib.ListN.{length, getD}
 use lib.Dec.{eqb}
 use Rattle.record.specs.declared.Draw.{Draw}
 use Rattle.record.specs.Call.{heapWrite, attest, protect}
-use Rattle.record.specs.Read.{whole, read}
+use Rattle.record.specs.Read.{Reading, refused, whole, read}
+use Rattle.record.specs.Write.{filled}
 use Rattle.ideal.specs.declared.EscrowRow.{EscrowRow}
 use Rattle.ideal.specs.State.{part}
 use Rattle.ideal.specs.Step.{Answer}
@@ -79,8 +81,13 @@ pub record PremiseAt (box : Tables → Element → Result) (G : ℕ → Bool) (t
 abbrev pub Exemption : Type 0
 Exemption = (ℕ → Bool) → Tables → Element → Bool
 
-abbrev pub noneExempt : Exemption
-noneExempt G t e = false
+unfoldable pub isChain : Reading → Bool
+isChain (refused code number) = false
+isChain (whole c used) = eqb (filled c .kind) 15
+
+-- a group program's own chain calls
+unfoldable pub ownChain : Exemption
+ownChain G t e = groupRuns G t && isChain (read (e .bytes))
 
 module _ (box : Tables → Element → Result) (G : ℕ → Bool) (es fs : List Element) where
   pub record AlikeLists : Type 0 where
@@ -97,7 +104,7 @@ module _ (box : Tables → Element → Result) (G : ℕ → Bool) (es fs : List 
         EqualAt (exempt G t (elementAt es k)) (groupRuns G t) (answerAt box es k) (answerAt box fs k)
     pub end : AgreeOutside G (tablesAfter box es) (tablesAfter box fs)
 
--- demand 3: no answer is exempt
+-- demand 3: none but the answers to group programs' own chain calls are exempt
 abbrev pub Secrecy : (Tables → Element → Result) → Type 0
 Secrecy box = (G : ℕ → Bool) (es fs : List Element) → AlikeLists box G es fs → Premise box G es fs
-    → EqualOutside box G es fs noneExempt
+    → EqualOutside box G es fs ownChain

@@ -3,15 +3,15 @@ use Prim.Native.Nat.{ℕ, zero, suc, _+_, _*_, _%_, _^_}
 use mathlib.Core.Bool.{Bool, true, false, not, _&&_, _||_, cond}
 use mathlib.Core.List.{List, [], _∷_, _++_}
 use mathlib.Core.Option.{Option, none, some}
-use lib.ListN.{length, set, replicate}
+use lib.ListN.{length, set, replicate, take, drop}
 use lib.Seq.{sets}
 use lib.Dec.{eqb, ltb, leb}
 use Rattle.fnv.specs.declared.Tag.{Tag}
 use Rattle.fnv.specs.Fnv.{tagOf}
 use Rattle.record.specs.declared.Handle.{Handle}
 use Rattle.record.specs.declared.Draw.{Draw}
-use Rattle.record.specs.Call.{Call, create, exit, heapWrite, heapRead, sharedWrite, sharedRead, attest, check, protect, retrieve, report, handOver}
-use Rattle.record.specs.Read.{Reading, refused, whole, read}
+use Rattle.record.specs.Call.{Call, create, exit, heapWrite, heapRead, sharedWrite, sharedRead, attest, check, protect, retrieve, report, handOver, chain}
+use Rattle.record.specs.Read.{Reading, refused, whole, read, fromLittle}
 use Rattle.ideal.specs.State.{Entry, Logged, Escrowed, State, Move, nothing, takes, activates, empties, writes, shares, logs, escrows, cleared, identityAt, heapAt, caller, part, ownPart, any, find, sameBytes, bytesUsed}
 
 infixr 20 _then_
@@ -93,6 +93,85 @@ unfoldable pub firstHolding : Tests → ℕ
 firstHolding accept = 0
 firstHolding (t then ts) = cond (t .1) (t .0) (firstHolding ts)
 
+-- ---- a chain of custody (document 02, P3)
+
+-- a link as a record or a head names it: its way (2: logged, 3: escrowed), its identity, and its tag or handle
+pub record Link : Type 0 where
+  pub way : ℕ
+  pub identity : ℕ
+  pub number : ℕ
+
+pub data Head : Type 0 where
+  malformed : Head
+  ends : Head
+  leads : Link → Head
+
+-- the head of a value: 1 ends the chain; after 2 or 3 stand the next link's identity and its tag or handle; the rest is payload
+unfoldable pub headOf : List ℕ → Head
+headOf [] = malformed
+headOf (b ∷ v) =
+    let link : Link = record { way = b; identity = fromLittle (take 8 v); number = fromLittle (take 8 (drop 8 v)) } in
+    cond (eqb b 1) ends (cond ((eqb b 2 || eqb b 3) && leb 16 (length v)) (leads link) malformed)
+
+unfoldable pub isMalformed : Head → Bool
+isMalformed malformed = true
+isMalformed ends = false
+isMalformed (leads k) = false
+
+-- the chain bytes hold the logged values in order, each after a count of 2 bytes; here the next one's
+unfoldable pub nextCount : List ℕ → ℕ
+nextCount bs = fromLittle (take 2 bs)
+
+-- its count or its contents are cut
+unfoldable pub nextCut : List ℕ → Bool
+nextCut bs = ltb (length bs) (2 + nextCount bs)
+
+unfoldable pub nextValue : List ℕ → List ℕ
+nextValue bs = take (nextCount bs) (drop 2 bs)
+
+-- the chain bytes behind a link
+unfoldable pub bytesAfter : Link → List ℕ → List ℕ
+bytesAfter k bs = cond (eqb (k .way) 2) (drop (2 + nextCount bs) bs) bs
+
+-- what follows a head that is not malformed, where these chain bytes are left: `later` goes on with the next link
+unfoldable pub afterHead : (Link → List ℕ → Tests) → Head → List ℕ → Tests
+afterHead later malformed bs = accept
+afterHead later ends bs = (19, not (eqb (length bs) 0)) then accept
+afterHead later (leads k) bs = later k bs
+
+unfoldable pub linksAfter : (Link → List ℕ → ℕ) → Head → List ℕ → ℕ
+linksAfter later malformed bs = 0
+linksAfter later ends bs = 0
+linksAfter later (leads k) bs = later k bs
+
+-- the log, and what the caller finds in the escrow under a source and a handle
+module _ (log : List Logged) (lookUp : ℕ → Handle → Option Escrowed) where
+  -- a logged value stands in the chain bytes, an escrowed one in the escrow
+  unfoldable pub linkValue : Link → List ℕ → List ℕ
+  linkValue k bs = cond (eqb (k .way) 2) (nextValue bs) (valueIn (lookUp (k .identity) (record { 0 = k .number })))
+
+  -- the check is no, or no row is found
+  unfoldable pub unvouched : Link → List ℕ → Bool
+  unvouched k bs =
+      cond (eqb (k .way) 2) (not (logged (k .identity) (record { 0 = k .number }) (nextValue bs) log))
+      (absent (lookUp (k .identity) (record { 0 = k .number })))
+
+  -- the tests of a link and of all that come after it, where so many may still be followed
+  unfoldable pub follow : ℕ → Link → List ℕ → Tests
+  follow zero k bs = (20, true) then accept
+  follow (suc left) k bs =
+      let head = headOf (linkValue k bs) in
+      (19, not (eqb (k .way) 2 || eqb (k .way) 3) || (eqb (k .way) 2 && nextCut bs))
+      then (9, eqb (k .identity) 0)
+      then (18, unvouched k bs)
+      then (19, isMalformed head)
+      then afterHead (follow left) head (bytesAfter k bs)
+
+  -- how many links there are
+  unfoldable pub linksFrom : ℕ → Link → List ℕ → ℕ
+  linksFrom zero k bs = 0
+  linksFrom (suc left) k bs = 1 + linksAfter (linksFrom left) (headOf (linkValue k bs)) (bytesAfter k bs)
+
 -- none runs
 unfoldable pub idle : State → Bool
 idle s = eqb (s .running) 16
@@ -126,6 +205,7 @@ tests s (retrieve i o h) =
 tests s report = accept
 -- place 16 has no identity, and is not empty
 tests s (handOver p) = (6, ltb 16 p) then (7, ltb p 16 && vacant s p) then accept
+tests s (chain w i x v) = (4, idle s) then follow (s .log) (found s) 16 (record { way = w; identity = i; number = x }) v
 
 unfoldable pub refusal : State → Call → ℕ
 refusal s c = firstHolding (tests s c)
@@ -153,6 +233,7 @@ move s (protect i o n d) = escrows (protected s i o n d)
 move s (retrieve i o h) = writes (s .running) o (valueIn (found s i h))
 move s report = nothing
 move s (handOver p) = activates p
+move s (chain w i x v) = nothing
 
 -- ---- moves on the state
 
@@ -212,6 +293,7 @@ number s (protect i o n d) = freeHandle n d (s .escrow) .0
 number s (retrieve i o h) = length (valueIn (found s i h))
 number s report = services (s .identities) + 256 * length (s .log) + 65536 * length (s .escrow)
 number s (handOver p) = 0
+number s (chain w i x v) = linksFrom (s .log) (found s) 16 (record { way = w; identity = i; number = x }) v
 
 unfoldable pub shown : State → Call → List ℕ
 shown s (create p i) = []
@@ -226,6 +308,7 @@ shown s (protect i o n d) = []
 shown s (retrieve i o h) = []
 shown s report = []
 shown s (handOver p) = []
+shown s (chain w i x v) = []
 
 -- ---- a step
 

@@ -1,16 +1,19 @@
 -- The premises of demand 3 can be met by two lists that differ: a secret byte is written, escrowed from one group program
--- to another and retrieved, while the sender also attests and escrows for an outsider.
-use Prim.Native.Nat.{ℕ, _+_, _^_, _<_}
+-- to another and retrieved, while the sender also attests and escrows for an outsider. And the exemption of a group program's
+-- own chain calls is needed: their code and their number may tell a byte of what it is given.
+use Prim.Native.Nat.{ℕ, _+_, _*_, _^_, _<_}
 use mathlib.Core.Path.{_≡_}
-use mathlib.Core.Bool.{Bool, _||_}
-use mathlib.Core.List.{List, [], _∷_, map}
+use mathlib.Core.Bool.{Bool, true, _||_}
+use mathlib.Core.List.{List, [], _∷_, _++_, map}
 use lib.ListN.{length, getD}
 use lib.Dec.{eqb}
-use Rattle.record.specs.Call.{Call, create, heapWrite, heapRead, attest, protect, retrieve, report, handOver}
+use Rattle.fnv.specs.Fnv.{little}
+use Rattle.record.specs.Call.{Call, create, heapWrite, heapRead, attest, protect, retrieve, report, handOver, chain}
 use Rattle.record.specs.Write.{write}
 use Rattle.ideal.specs.Tables.{Tables}
-use Rattle.ideal.specs.Box.{Element, Result, tablesAfter, answerAt}
-use Rattle.ideal.specs.Secrecy.{AlikeLists, Premise}
+use Rattle.ideal.specs.Step.{Answer}
+use Rattle.ideal.specs.Box.{Element, Result, elementAt, tablesAfter, tablesBefore, answerAt}
+use Rattle.ideal.specs.Secrecy.{AlikeLists, Premise, ownChain}
 
 -- programs 1 and 2
 unfoldable pub group : ℕ → Bool
@@ -56,3 +59,37 @@ pub record Differing (box : Tables → Element → Result) (es fs : List Element
 
 abbrev pub PremisesCanBeMet : (Tables → Element → Result) → Type 0
 PremisesCanBeMet box = Differing box (elements 66) (elements 67)
+
+-- ---- a group program's own chain
+
+-- 1 escrows for 2 a value that ends a chain, and one that leads to it, but for its first byte, which is the secret b; 2 follows
+-- the second
+unfoldable pub before : ℕ → List Call
+before b =
+    create 0 1 ∷ create 1 2
+    ∷ handOver 0
+    ∷ heapWrite 0 0 (1 ∷ [])
+    ∷ protect 2 0 1 (record { 0 = 7 })
+    ∷ heapWrite 0 0 (b ∷ (little 8 1 ++ little 8 (2 ^ 48 + 7)))
+    ∷ protect 2 0 17 (record { 0 = 7 })
+    ∷ handOver 1
+    ∷ []
+
+unfoldable pub chained : ℕ → List Element
+chained b = map element (before b) ++ (element (chain 3 1 (17 * 2 ^ 48 + 7) []) ∷ [])
+
+unfoldable pub links : (code number : ℕ) → Answer
+links code number = record { code = code; number = number; used = 21; shown = [] }
+
+-- alike, with the premise, and the answers to the chain of a group program are these
+pub record Tells (box : Tables → Element → Result) (es fs : List Element) (a b : Answer) : Type 0 where
+  pub alike : AlikeLists box group es fs
+  pub premise : Premise box group es fs
+  pub own : ownChain group (tablesBefore box es 8) (elementAt es 8) ≡ true
+  pub first : answerAt box es 8 ≡ a
+  pub second : answerAt box fs 8 ≡ b
+
+-- where the byte is 1 there is one link, and where it is 3 there are two; where it is 0 the head is malformed
+pub record ExemptionNeeded (box : Tables → Element → Result) : Type 0 where
+  pub number : Tells box (chained 1) (chained 3) (links 0 1) (links 0 2)
+  pub code : Tells box (chained 1) (chained 0) (links 0 1) (links 19 0)

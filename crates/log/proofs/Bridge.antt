@@ -16,7 +16,7 @@ use Rattle.ideal.specs.Tables.{Tables, boxRecord, tables, stateOf}
 use Rattle.ideal.specs.Box.{laid}
 use Rattle.ideal.specs.Valid.{Valid}
 use Rattle.lists.proofs.Bools.{by-cases, and-other, not-is}
-use Rattle.ideal.proofs.Chain.{failed, passed}
+use Rattle.ideal.proofs.Passing.{failed, passed}
 use Rattle.ideal.proofs.Entries.{right-tags}
 use Rattle.state.specs.Answers.{acceptedWith}
 use Rattle.state.specs.Counts.{fullBy, Room}

@@ -4,7 +4,7 @@ use mathlib.Core.Path.{_≡_, refl, sym, ap, _∙_}
 use mathlib.Core.List.{List, [], _∷_, _++_, append-assoc}
 use mathlib.Core.Option.{Option, none, some}
 use native.Mathlib.Omega.{arith}
-use lib.ListN.{length, take, length-append}
+use lib.ListN.{length, take, drop, length-append}
 use lib.Dec.{eqb, ltb}
 use borrow.Author.Tests.{ltb-true, ltb-false}
 use Rattle.record.specs.Read.{Reading, refused, whole, read, cut}
@@ -24,6 +24,10 @@ unfolding events
 few t r (refused code number) = omega arith
 few t r (whole c used) =
     by-cases (eqb (r .answer .code) 15) (λ e. rw e (omega arith)) (λ e. rw e (few-of t r (commandOf (ownBytes t) c)))
+
+take-nil : {A : Type 0} (m : ℕ) → take {A = A} m [] ≡ []
+take-nil zero = refl
+take-nil (suc m) = refl
 
 module _ (box : Tables → Element → Result) where
   -- the events of the call at an index, none or one
@@ -94,6 +98,14 @@ module _ (box : Tables → Element → Result) where
   in-list [] t k ev h = absurd (none-at t k ev h)
   in-list (e ∷ es) t zero ev h = omega arith
   in-list (e ∷ es) t (suc k) ev h = let r = in-list es (box t e .tables) k ev h in omega arith
+
+  -- the tables before a call of a list, from those before an earlier one
+  pub tables-split : (n m : ℕ) (es : List Element) (t : Tables)
+      → tablesFrom box t (take (n + m) es) ≡ tablesFrom box (tablesFrom box t (take n es)) (take m (drop n es))
+  unfolding tablesFrom
+  tables-split zero m es t = let e : 0 + m ≡ m = omega arith in rw e
+  tables-split (suc n) m [] t = let e : suc n + m ≡ suc (n + m) = omega arith in rw e (sym (ap (tablesFrom box t) (take-nil m)))
+  tables-split (suc n) m (x ∷ es) t = let e : suc n + m ≡ suc (n + m) = omega arith in rw e (tables-split n m es (box t x .tables))
 
   pub behaviour-append : (es fs : List Element) (t : Tables)
       → behaviourFrom box t (es ++ fs) ≡ behaviourFrom box t es ++ behaviourFrom box (tablesFrom box t es) fs

@@ -12,7 +12,7 @@ use borrow.Author.Tests.{eqb-true, eqb-false, ne-eqb}
 use Rattle.fnv.specs.declared.Tag.{Tag}
 use Rattle.record.specs.declared.Handle.{Handle}
 use Rattle.record.specs.declared.Draw.{Draw}
-use Rattle.record.specs.Call.{Call, create, exit, heapWrite, heapRead, sharedWrite, sharedRead, attest, check, protect, retrieve, report, handOver}
+use Rattle.record.specs.Call.{Call, create, exit, heapWrite, heapRead, sharedWrite, sharedRead, attest, check, protect, retrieve, report, handOver, chain}
 use Rattle.record.specs.Read.{Reading, refused, whole, read}
 use Rattle.ideal.specs.Tables.{Tables, freshTables}
 use Rattle.ideal.specs.Box.{Element, Result, callOn, elementAt, tablesAfter, tablesBefore, answerAt}
@@ -76,6 +76,7 @@ was t (protect i o n x) d h =
 was t (retrieve i o a) d h = is-command t _ (iretrieve i a o) d h refl
 was t report d h = no-command d h
 was t (handOver p) d h = no-command d h
+was t (chain w i x v) d h = no-command d h
 
 executed : (t : Tables) (r : Result) (c : Call) (ev : Event) (x : Option Command) → commandOf (ownBytes t) c ≡ x
     → eventOf t r x ≡ ev ∷ [] → Executes t r c ev

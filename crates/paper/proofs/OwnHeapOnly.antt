@@ -8,6 +8,7 @@ use lib.ListN.{length, List·getD-eq-default}
 use lib.Dec.{eqb, ltb}
 use borrow.Author.Tests.{eqb-true, eq-eqb, ltb-true, ltb-false, not-false}
 use Rattle.record.specs.Call.{Call}
+use Rattle.record.specs.Read.{read}
 use Rattle.ideal.specs.State.{Escrowed, State, identityAt, heapAt, caller}
 use Rattle.ideal.specs.Tables.{Tables, tables, boxRecord, stateOf}
 use Rattle.ideal.specs.Box.{Element, laid, callOn}
@@ -21,7 +22,7 @@ use Rattle.ideal.proofs.Kept.{valid-step}
 use Rattle.ideal.proofs.Hosted.{heap-is}
 use Rattle.ideal.proofs.TwoEscrows.{SameEscrow, no-entries, entry, same-escrow}
 use Rattle.ideal.proofs.TwoStates.{Secrets, SameBut, NoneTold}
-use Rattle.ideal.proofs.Secret.{both-element, all-equal, same-box, same-escrow-rows}
+use Rattle.ideal.proofs.Secret.{chained, both-element, all-equal, same-box, same-escrow-rows}
 
 -- the heaps of taken places other than p
 abbrev others : ℕ → Secrets
@@ -116,9 +117,10 @@ tells s t e v w k =
       attests = λ g. clash _ g (own-open p (caller s));
       protects = λ g. clash _ g (own-open p (caller s));
       retrieves = λ g i o h q r. refl;
+      follows = λ g w i x v q left l rest come way some. refl;
     } in
     let b = both-element (others p) k e (λ x c u y. none c) in
-    rw (call-is s e v, call-is t e w) (all-equal (own-open p (caller s)) (b .answer), only-others p (b .state) (valid-step s e v) (valid-step t e w))
+    rw (call-is s e v, call-is t e w) (all-equal (chained (read (e .bytes))) (own-open p (caller s)) (b .answer), only-others p (b .state) (valid-step s e v) (valid-step t e w))
 
 pub reads-own-heap : ReadsOwnHeap callOn
 unfolding stateOf

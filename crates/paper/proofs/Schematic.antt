@@ -4,8 +4,8 @@ use mathlib.Core.Path.{_≡_, refl, sym, ap, _∙_, subst}
 use mathlib.Core.List.{List, [], _∷_, _++_, append-nil}
 use mathlib.Core.Option.{some}
 use native.Mathlib.Omega.{arith}
-use lib.ListN.{length, getD, set, take, drop, List·getD-eq-default}
-use lib.Seq.{sets, length-sets, ext-getD, getD-set-same, set-set, set-getD, set-at, split-at}
+use lib.ListN.{length, getD, set, take, drop, length-drop, List·getD-eq-default}
+use lib.Seq.{getD-drop, sets, length-sets, ext-getD, getD-set-same, set-set, set-getD, set-at, split-at}
 use lib.Dec.{eqb, leb}
 use borrow.Author.Tests.{eq-eqb, ne-eqb, ltb-true, le-ltb, leb-true}
 use Rattle.record.specs.declared.Handle.{Handle}
@@ -19,12 +19,12 @@ use Rattle.ideal.specs.State.{State, heapAt, caller, part, ownPart}
 use Rattle.ideal.specs.Step.{refusal, tests, firstHolding, idle, beyond, protected, move, apply, effect, number, accepted}
 use Rattle.ideal.specs.Tables.{Tables, freshTables, boxRecord, tables}
 use Rattle.ideal.specs.Box.{Element, Result, laid, callOn, elementAt, tablesFrom, tablesAfter, tablesBefore}
-use Rattle.ideal.specs.Refusals.{ownBytes}
+use Rattle.ideal.specs.Refusals.{callerIn, ownBytes}
 use Rattle.ideal.specs.Accuracy.{ProtectsAt}
 use Rattle.ideal.specs.History.{within}
 use Rattle.ideal.specs.Valid.{Valid}
 use Rattle.ideal.specs.Witness.{element}
-use Rattle.paper.specs.Paper.{iprotect, iretrieve, handle, value, Event, commandOf, eventOf, events, behaviourFrom, behaviour, eventAt, Occurs, NeverRetrieved, BehavesWithTwo, Lemma3-1}
+use Rattle.paper.specs.Paper.{iprotect, iretrieve, handle, value, Event, commandOf, eventOf, events, behaviourFrom, behaviour, eventAt, Occurs, NeverRetrieved, NeverFollowed, BehavesWithTwo, Lemma3-1}
 use Rattle.lists.proofs.Bools.{by-cases, clash, and-left, and-right, and-true}
 use Rattle.ideal.proofs.Memory.{sets-byte, part-at}
 use Rattle.ideal.proofs.Facts.{facts}
@@ -32,12 +32,12 @@ use Rattle.ideal.proofs.Accepts.{sound-of}
 use Rattle.ideal.proofs.Does.{own-size}
 use Rattle.ideal.proofs.Laid.{call-is}
 use Rattle.ideal.proofs.Kept.{valid-effect}
-use Rattle.ideal.proofs.Runs.{stateBefore, valid-before, tables-before, caller-before, own-before, Accepted, accepted-call, accepted-at, number-at}
+use Rattle.ideal.proofs.Runs.{stateBefore, valid-before, tables-before, caller-before, own-before, Accepted, accepted-call, accepted-at, number-at, state-after}
 use Rattle.ideal.proofs.OwnHeap.{own-bytes, written-stands}
 use Rattle.ideal.proofs.Does.{ProtectPassed, protect-passed}
 use Rattle.ideal.proofs.TwoEscrows.{SameEntry, same-escrow, same-more}
 use Rattle.ideal.proofs.TwoStates.{SameHeaps, SameBut}
-use Rattle.paper.proofs.Behaviours.{countAt, eventsAt, event-of, past, behaviour-append}
+use Rattle.paper.proofs.Behaviours.{countAt, eventsAt, event-of, past, tables-split, behaviour-append}
 use Rattle.paper.proofs.Events.{EventOf, event-at, protects-at, accepted-event, made, principal-is}
 use Rattle.paper.proofs.Unretrieved.{unretrieved, run}
 
@@ -346,14 +346,37 @@ module _ (es : List Element) (i : ℕ) (v b : List ℕ) (p q : ℕ) (η : Handle
       (ap (λ α. eventAt α (length A + suc j)) alpha
       ∙ past callOn A (protects p q η v ∷ behaviourFrom callOn (tables (effect s c)) rest) (suc j) ∙ there)
 
+  -- a chain through the value in the rest of the list is one in the list
+  unfollowed : NeverFollowed callOn p q η freshTables es → NeverFollowed callOn p q η (tables (effect s c)) rest
+  unfolding tablesBefore tablesAfter elementAt
+  unfollowed h m l x =
+      let begins : tablesFrom callOn freshTables (take (suc k) es) ≡ tables (effect s c) =
+      tables-before es (suc k) ∙ ap tables (state-after es k c (at .used) accepts) in
+      let there : tablesFrom callOn freshTables (take (suc k + m) es) ≡ tablesFrom callOn (tables (effect s c)) (take m rest) =
+      tables-split callOn (suc k) m es freshTables ∙ ap (λ t. tablesFrom callOn t (take m rest)) begins in
+      let is : elementAt es (suc k + m) ≡ elementAt rest m = sym (getD-drop (suc k) es m _) in
+      h (suc k + m) (omega (arith, length-drop (suc k) es))
+      (record {
+        first = x .first;
+        bytes = x .bytes;
+        used = x .used;
+        reads = ap (λ e. read (e .bytes)) is ∙ x .reads;
+        by = ap (λ t. callerIn t) there ∙ x .by;
+        before = x .before;
+        few = x .few;
+        left = x .left;
+        comes = rw there (x .comes);
+        finds = rw there (x .finds);
+      })
+
   behaves : ((j offset : ℕ) (w : List ℕ) → i < j → Occurs (behaviour callOn es) j (iretrieve p η offset) (some q) (value w) → ⊥)
-      → BehavesWithTwo callOn es (set (behaviour callOn es) i (protects p q η b))
-  behaves h =
+      → NeverFollowed callOn p q η freshTables es → BehavesWithTwo callOn es (set (behaviour callOn es) i (protects p q η b))
+  behaves h f =
       let r = accepts .passes in
       let same =
       run p q η rest (effect s c) last (valid-effect s c valid r)
       (valid₃ s valid q (at .offset) (at .size) (at .draw) r b size)
-      (same-after s valid q (at .offset) (at .size) (at .draw) r b size p η by gets) (never h) in
+      (same-after s valid q (at .offset) (at .size) (at .draw) r b size p η by gets) (never h) (unfollowed f) in
       record {
         index = k;
         before = before;
@@ -364,4 +387,4 @@ module _ (es : List Element) (i : ℕ) (v b : List ℕ) (p q : ℕ) (η : Handle
       }
 
 pub lemma3-1 : Lemma3-1 callOn
-lemma3-1 es i v b p q η h n e = behaves es i v b p q η (event-at es i _ h) e n
+lemma3-1 es i v b p q η h n f e = behaves es i v b p q η (event-at es i _ h) e n f

@@ -23,7 +23,7 @@ use Rattle.ideal.specs.OneCall.{withPlacesIn, leaves}
 use Rattle.ideal.specs.Valid.{Valid}
 use Rattle.paper.specs.ServiceLife.{heapOf, WritesOwnHeap, RunsAt, WritesAt, HandsOver, HandOverKeeps, ExitClears, TenantReadsZeros}
 use Rattle.lists.proofs.Bools.{by-cases, and-left, and-right}
-use Rattle.ideal.proofs.Chain.{failed, passed}
+use Rattle.ideal.proofs.Passing.{failed, passed}
 use Rattle.ideal.proofs.Does.{busy, Does, does-nothing, does-take, does-activate, does-empty, does-write, does-share, does-log, does-escrow, does}
 use Rattle.ideal.proofs.Laid.{stepElement, valid-sound, tables-state, call-is}
 use Rattle.ideal.proofs.Kept.{valid-step}

@@ -1,5 +1,5 @@
 -- A value that is escrowed and not retrieved shows nowhere: Lemma 3 of specs/Paper.antt. Assumes nothing.
-use Prim.Native.Nat.{ℕ, suc, _+_, _*_, _<_}
+use Prim.Native.Nat.{ℕ, suc, _+_, _*_, _-_, _<_}
 use mathlib.Core.Path.{_≡_, refl, sym, ap, _∙_, subst, subst₂}
 use mathlib.Core.Bool.{true, false, _&&_, cond, false≢true}
 use mathlib.Core.List.{List, [], _∷_, _++_}
@@ -10,24 +10,27 @@ use lib.Seq.{ext-getD, getD-take}
 use lib.Dec.{eqb}
 use borrow.Author.Tests.{eqb-true}
 use Rattle.record.specs.declared.Handle.{Handle}
-use Rattle.record.specs.Call.{Call, retrieve}
+use Rattle.record.specs.Call.{Call, retrieve, chain}
 use Rattle.record.specs.Read.{Reading, refused, whole, read}
 use Rattle.ideal.specs.declared.EscrowRow.{EscrowRow}
 use Rattle.ideal.specs.State.{State, caller, part}
-use Rattle.ideal.specs.Step.{refusal}
+use Rattle.ideal.specs.Step.{found, absent, refusal}
 use Rattle.ideal.specs.Tables.{Tables, escrowTable, entryOf, entriesOf, usedEscrow, boxRecord, tables, stateOf}
 use Rattle.ideal.specs.Box.{Element, Result, laid, callOn, elementAt, tablesFrom, answersFrom}
 use Rattle.ideal.specs.Layouts.{Sound}
-use Rattle.ideal.specs.Refusals.{ownBytes, isRow}
+use Rattle.ideal.specs.Refusals.{ownBytes, isRow, isAbsent}
 use Rattle.ideal.specs.Valid.{Valid}
-use Rattle.paper.specs.Paper.{Command, iattest, icheck, iprotect, iretrieve, principalIn, commandOf, eventOf, events, behaviourFrom, OnlyValue, NeverRetrieved, AgreeBut, Lemma3}
+use Rattle.paper.specs.Paper.{Command, iattest, icheck, iprotect, iretrieve, principalIn, commandOf, eventOf, events, behaviourFrom, OnlyValue, NeverRetrieved, NeverFollowed, AgreeBut, Lemma3}
 use Rattle.lists.proofs.Bools.{by-cases, and-left, and-right}
 use Rattle.ideal.proofs.Facts.{facts}
-use Rattle.ideal.proofs.Laid.{stepElement, valid-sound, tables-state, call-is}
+use Rattle.ideal.proofs.FoundRows.{found-row}
+use Rattle.ideal.proofs.Laid.{stepElement, valid-sound, state-tables, tables-state, call-is}
 use Rattle.ideal.proofs.Kept.{valid-step}
+use Rattle.ideal.proofs.Following.{Comes}
 use Rattle.ideal.proofs.TwoEscrows.{SameEntry, SameEscrow, no-entries, entry}
 use Rattle.ideal.proofs.TwoStates.{Secrets, SameBut, length-part, NoneTold}
-use Rattle.ideal.proofs.Secret.{both-element, all-equal, accepted-code, same-box, same-escrow-rows, same-escrow-values}
+use Rattle.paper.proofs.Comings.{comes-to}
+use Rattle.ideal.proofs.Secret.{chained, both-element, all-equal, accepted-code, same-box, same-escrow-rows, same-escrow-values}
 
 -- the value under one key may differ, and no heap
 abbrev pub unretrieved : ℕ → ℕ → Handle → Secrets
@@ -44,9 +47,13 @@ module _ (p q : ℕ) (η : Handle) where
 
   -- ---- one element on two states
 
-  -- the call does not hand the value out
-  abbrev Quiet : State → Call → Type 0
-  Quiet s c = (o : ℕ) → c ≡ retrieve p o η → caller s ≡ q → refusal s c ≡ 0 → ⊥
+  -- the call neither hands the value out nor follows a chain through it
+  record Quiet (s : State) (c : Call) : Type 0 where
+    retrieves : (o : ℕ) → c ≡ retrieve p o η → caller s ≡ q → refusal s c ≡ 0 → ⊥
+    follows : (w i x : ℕ) (v : List ℕ) → c ≡ chain w i x v → caller s ≡ q → (left : ℕ) (rest : List ℕ)
+        → Comes (s .log) (found s) (record { way = w; identity = i; number = x }) v (suc left)
+        (record { way = 3; identity = p; number = η .0 }) rest
+        → absent (found s p η) ≡ false → ⊥
 
   record IsKey (i j : ℕ) (h : Handle) : Type 0 where
     source : i ≡ p
@@ -71,7 +78,15 @@ module _ (p q : ℕ) (η : Handle) where
         retrieves = λ g i o a e r.
             by-cases (z .value (record { source = i; recipient = caller s; handle = a }))
             (λ y. let k = is-key i (caller s) a y in
-            absurd (h o (e ∙ (λ m. retrieve (k .source m) o (k .handle m))) (k .recipient) r))
+            absurd (h .retrieves o (e ∙ (λ m. retrieve (k .source m) o (k .handle m))) (k .recipient) r))
+            (λ n. n);
+        follows = λ g w i x v e left l rest come way some.
+            by-cases (z .value (record { source = l .identity; recipient = caller s; handle = record { 0 = l .number } }))
+            (λ y. let k = is-key (l .identity) (caller s) (record { 0 = l .number }) y in
+            let l₁ : l ≡ record { way = 3; identity = p; number = η .0 } =
+            λ m. record { way = way m; identity = k .source m; number = k .handle m .0 } in
+            absurd (h .follows w i x v e (k .recipient) left rest (subst (λ a. Comes (s .log) (found s) (record { way = w; identity = i; number = x }) v (suc left) a rest) l₁ come)
+            (ap (λ a. absent (found s (a .identity) (record { 0 = a .number }))) (sym l₁) ∙ some)))
             (λ n. n);
       }
 
@@ -158,35 +173,72 @@ module _ (p q : ℕ) (η : Handle) where
       (record { offset = r .offset; used = r .used; reads = r .reads; by = r .by; accepts = r .accepts })
 
   quiet : (s : State) (e : Element) (es : List Element) → Valid s → NeverRetrieved callOn p q η (tables s) (e ∷ es)
-      → eqb (e .outputSize) 1024 ≡ true → (c : Call) (u : ℕ) → read (e .bytes) ≡ whole c u → Quiet s c
-  unfolding tablesFrom elementAt tables boxRecord
-  quiet s e es v h x c u y o is by r =
-      h 0 (omega arith)
+      → NeverFollowed callOn p q η (tables s) (e ∷ es) → eqb (e .outputSize) 1024 ≡ true → (c : Call) (u : ℕ) → read (e .bytes) ≡ whole c u → Quiet s c
+  unfolding tablesFrom elementAt tables boxRecord isAbsent absent
+  quiet s e es v h f x c u y =
+      record {
+        retrieves = λ o is by r.
+            h 0 (omega arith)
+            (record {
+              offset = o;
+              used = u;
+              reads = y ∙ ap (λ d. whole d u) is;
+              by = by;
+              accepts = accepted-code s e c u v x y r;
+            });
+        follows = λ w i x b is by left rest come some.
+            let (few, there) = comes-to s v come in
+            f 0 (omega arith)
+            (record {
+              first = record { way = w; identity = i; number = x };
+              bytes = b;
+              used = u;
+              reads = y ∙ ap (λ d. whole d u) is;
+              by = by;
+              before = 16 - suc left;
+              few = omega arith;
+              left = rest;
+              comes = there;
+              finds = sym (found-row s (state-tables s v) isAbsent absent refl (λ e at. refl) p η) ∙ some;
+            });
+      }
+
+  follow-later : (t : Tables) (e : Element) (es : List Element) → NeverFollowed callOn p q η t (e ∷ es)
+      → NeverFollowed callOn p q η (callOn t e .tables) es
+  unfolding tablesFrom elementAt
+  follow-later t e es h k l r =
+      h (suc k) (omega arith)
       (record {
-        offset = o;
-        used = u;
-        reads = y ∙ ap (λ d. whole d u) is;
-        by = by;
-        accepts = accepted-code s e c u v x y r;
+        first = r .first;
+        bytes = r .bytes;
+        used = r .used;
+        reads = r .reads;
+        by = r .by;
+        before = r .before;
+        few = r .few;
+        left = r .left;
+        comes = r .comes;
+        finds = r .finds;
       })
 
   pub run : (es : List Element) (s t : State) → Valid s → Valid t → SameBut z s t → NeverRetrieved callOn p q η (tables s) es
-      → AgreeBut callOn p q η (tables s) (tables t) es
+      → NeverFollowed callOn p q η (tables s) es → AgreeBut callOn p q η (tables s) (tables t) es
   unfolding answersFrom behaviourFrom tablesFrom laid
-  run [] s t v w k h = record { answers = refl; events = refl; end = only-value k v w }
-  run (e ∷ es) s t v w k h =
-      let b = both-element z k e (λ x c u y. none-told (quiet s e es v h x c u y)) in
+  run [] s t v w k h f = record { answers = refl; events = refl; end = only-value k v w }
+  run (e ∷ es) s t v w k h f =
+      let b = both-element z k e (λ x c u y. none-told (quiet s e es v h f x c u y)) in
       let s′ = stepElement s e .state in
       let t′ = stepElement t e .state in
       let i : callOn (tables s) e .tables ≡ tables s′ = ap (λ r. r .tables) (call-is s e v) in
       let j : callOn (tables t) e .tables ≡ tables t′ = ap (λ r. r .tables) (call-is t e w) in
       let a : callOn (tables s) e .answer ≡ callOn (tables t) e .answer =
-      ap (λ r. r .answer) (call-is s e v) ∙ all-equal refl (b .answer) ∙ ap (λ r. r .answer) (sym (call-is t e w)) in
+      ap (λ r. r .answer) (call-is s e v) ∙ all-equal (chained (read (e .bytes))) refl (b .answer) ∙ ap (λ r. r .answer) (sym (call-is t e w)) in
       let v′ = valid-step s e v in
       let w′ = valid-step t e w in
       let rest : AgreeBut callOn p q η (callOn (tables s) e .tables) (callOn (tables t) e .tables) es =
       subst₂ (λ x y. AgreeBut callOn p q η x y es) (sym i) (sym j)
-      (run es s′ t′ v′ w′ (b .state) (subst (λ x. NeverRetrieved callOn p q η x es) i (never-later (tables s) e es h))) in
+      (run es s′ t′ v′ w′ (b .state) (subst (λ x. NeverRetrieved callOn p q η x es) i (never-later (tables s) e es h))
+      (subst (λ x. NeverFollowed callOn p q η x es) i (follow-later (tables s) e es f))) in
       let before = only-value k v w in
       let after = subst₂ (λ x y. OnlyValue p q η x y) (sym i) (sym j) (only-value (b .state) v′ w′) in
       let one =
@@ -200,9 +252,9 @@ module _ (p q : ℕ) (η : Handle) where
       }
 
 pub lemma3 : Lemma3 callOn
-lemma3 p q η t u es x y o h =
+lemma3 p q η t u es x y o h f =
     let i = tables-state t 1024 x in
     let j = tables-state u 1024 y in
     subst₂ (λ a b. AgreeBut callOn p q η a b es) i j
     (run p q η es (stateOf t) (stateOf u) (valid-sound t 1024 x) (valid-sound u 1024 y) (same-states p q η x y o)
-    (subst (λ a. NeverRetrieved callOn p q η a es) (sym i) h))
+    (subst (λ a. NeverRetrieved callOn p q η a es) (sym i) h) (subst (λ a. NeverFollowed callOn p q η a es) (sym i) f))

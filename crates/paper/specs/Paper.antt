@@ -9,13 +9,14 @@ use lib.Dec.{eqb}
 use Rattle.fnv.specs.declared.Tag.{Tag}
 use Rattle.record.specs.declared.Handle.{Handle}
 use Rattle.record.specs.declared.Draw.{Draw}
-use Rattle.record.specs.Call.{Call, create, exit, heapWrite, heapRead, sharedWrite, sharedRead, attest, check, protect, retrieve, report, handOver}
+use Rattle.record.specs.Call.{Call, create, exit, heapWrite, heapRead, sharedWrite, sharedRead, attest, check, protect, retrieve, report, handOver, chain}
 use Rattle.record.specs.Read.{Reading, refused, whole, read}
 use Rattle.ideal.specs.State.{part}
+use Rattle.ideal.specs.Step.{Link}
 use Rattle.ideal.specs.Tables.{Tables, escrowTable, freshTables}
 use Rattle.ideal.specs.Box.{Element, Result, elementAt, tablesBefore, tablesFrom, answersFrom}
 use Rattle.ideal.specs.Layouts.{Sound}
-use Rattle.ideal.specs.Refusals.{callerIn, ownBytes, isRow}
+use Rattle.ideal.specs.Refusals.{callerIn, ownBytes, isRow, isAbsent, rowFor, valueAt, leftAt, leadsOn, namedIn, linkConditions, First}
 use Rattle.ideal.specs.Accuracy.{Earlier, LogsAt, ProtectsAt, Says, HandsOut, handleUsed, HandleOnce, HandleIsFirstFree}
 
 -- ---- Definition 1
@@ -49,8 +50,9 @@ pub record Event : Type 0 where
 unfoldable pub principalIn : Tables → Option ℕ
 principalIn t = cond (eqb (t .box .running) 16) none (some (callerIn t))
 
--- attest, check, protect and retrieve are instructions, where own is the parts of the caller's heap. The other eight kinds are
--- none: they are "normal computational steps", or the auxiliary operations of 5.3.
+-- attest, check, protect and retrieve are instructions, where own is the parts of the caller's heap. The other nine kinds are
+-- none: they are "normal computational steps", or the auxiliary operations of 5.3; a chain (document 02, P3) is the links of 4.2
+-- followed in one call.
 unfoldable pub commandOf : (own : (offset size : ℕ) → List ℕ) → Call → Option Command
 commandOf own (create p i) = none
 commandOf own exit = none
@@ -64,6 +66,7 @@ commandOf own (protect i o n d) = some (iprotect i (own o n))
 commandOf own (retrieve i o h) = some (iretrieve i h o)
 commandOf own report = none
 commandOf own (handOver p) = none
+commandOf own (chain w i x v) = none
 
 -- what a command gives that is accepted
 abbrev pub given : Result → Command → Response
@@ -190,7 +193,7 @@ module _ (box : Tables → Element → Result) where
     pub no-re-use : HandleOnce box
     pub resamples : HandleIsFirstFree box
 
--- ---- Lemma 3: what is escrowed under (η, P_s, P_r) and not retrieved shows nowhere
+-- ---- Lemma 3: what is escrowed under (η, P_s, P_r), not retrieved and not followed shows nowhere
 
 -- two boxes that differ in the value of (η, p, q) alone; its length, which stands in the row, is the same
 pub record OnlyValue (p q : ℕ) (η : Handle) (t u : Tables) : Type 0 where
@@ -203,6 +206,13 @@ pub record OnlyValue (p q : ℕ) (η : Handle) (t u : Tables) : Type 0 where
   pub escrowValues : (k : ℕ) → k < t .box .escrow .rows
       → let r = getD (t .escrowRows) k (escrowTable .blank) in isRow η p q r ≡ false
       → part (t .escrowValues) (r .first) (r .length) ≡ part (u .escrowValues) (r .first) (r .length)
+
+-- a chain whose first link is so named, with these chain bytes, comes to a link, with those left, when n have been followed:
+-- all of these passed their tests, and each led to the next
+pub data ComesTo (t : Tables) (first : Link) (bytes : List ℕ) : (n : ℕ) → Link → List ℕ → Type 0 where
+  at-first : ComesTo t first bytes 0 first bytes
+  goes-on : {n : ℕ} {k : Link} {left : List ℕ} → ComesTo t first bytes n k left → First 0 (linkConditions t n k left)
+      → leadsOn (valueAt t k left) ≡ true → ComesTo t first bytes (suc n) (namedIn (valueAt t k left)) (leftAt k left)
 
 module _ (box : Tables → Element → Result) where
   -- at index k of a run from t the recipient q is handed the value: it retrieves (η, p, q) and is accepted
@@ -218,6 +228,28 @@ module _ (box : Tables → Element → Result) where
   abbrev pub NeverRetrieved : (p q : ℕ) (η : Handle) → Tables → List Element → Type 0
   NeverRetrieved p q η t es = (k : ℕ) → k < length es → RetrievesAt p q η t es k → ⊥
 
+  -- just before the call at index k of a run from t
+  abbrev pub tablesAt : Tables → List Element → ℕ → Tables
+  tablesAt t es k = tablesFrom box t (take k es)
+
+  -- at index k of a run from t the recipient q follows a chain through the value: its chain comes to the escrowed link (p, η)
+  -- before sixteen have been followed, and finds it
+  pub record FollowsAt (p q : ℕ) (η : Handle) (t : Tables) (es : List Element) (k : ℕ) : Type 0 where
+    pub first : Link
+    pub bytes : List ℕ
+    pub used : ℕ
+    pub reads : read (elementAt es k .bytes) ≡ whole (chain (first .way) (first .identity) (first .number) bytes) used
+    pub by : callerIn (tablesAt t es k) ≡ q
+    pub before : ℕ
+    pub few : before < 16
+    pub left : List ℕ
+    pub comes : ComesTo (tablesAt t es k) first bytes before (record { way = 3; identity = p; number = η .0 }) left
+    pub finds : isAbsent (rowFor (tablesAt t es k) p η) ≡ false
+
+  -- the paper has no chains: following one through the handle counts, with retrieving it, among what P_r does not do
+  abbrev pub NeverFollowed : (p q : ℕ) (η : Handle) → Tables → List Element → Type 0
+  NeverFollowed p q η t es = (k : ℕ) → k < length es → FollowsAt p q η t es k → ⊥
+
   pub record AgreeBut (p q : ℕ) (η : Handle) (t u : Tables) (es : List Element) : Type 0 where
     -- codes, numbers, bytes used and bytes shown
     pub answers : answersFrom box t es ≡ answersFrom box u es
@@ -231,7 +263,7 @@ module _ (box : Tables → Element → Result) where
   -- follows by Bayes' rule; it is not stated here, where nothing is random.
   abbrev pub Lemma3 : Type 0
   Lemma3 = (p q : ℕ) (η : Handle) (t u : Tables) (es : List Element) → Sound t 1024 → Sound u 1024 → OnlyValue p q η t u
-      → NeverRetrieved p q η t es → AgreeBut p q η t u es
+      → NeverRetrieved p q η t es → NeverFollowed p q η t es → AgreeBut p q η t u es
 
   -- α is the behaviour of the list with two elements more, one just before the call at an index and one just after it; so the
   -- draws are those of the list
@@ -241,10 +273,12 @@ module _ (box : Tables → Element → Result) where
     pub after : Element
     pub is : behaviour box (take index es ++ (before ∷ elementAt es index ∷ after ∷ drop (suc index) es)) ≡ α
 
-  -- "1. α_ν[b/ν] is a behavior", for each b of v's length, where ν is the value of the iprotect at i
+  -- "1. α_ν[b/ν] is a behavior", for each b of v's length, where ν is the value of the iprotect at i. A chain is no event, so
+  -- that none goes through the value is said of the list.
   abbrev pub Lemma3-1 : Type 0
   Lemma3-1 = (es : List Element) (i : ℕ) (v b : List ℕ) (p q : ℕ) (η : Handle)
       → let α = behaviour box es in
       Occurs α i (iprotect q v) (some p) (handle η)
-      → ((j offset : ℕ) (w : List ℕ) → i < j → Occurs α j (iretrieve p η offset) (some q) (value w) → ⊥) → length b ≡ length v
+      → ((j offset : ℕ) (w : List ℕ) → i < j → Occurs α j (iretrieve p η offset) (some q) (value w) → ⊥)
+      → NeverFollowed p q η freshTables es → length b ≡ length v
       → BehavesWithTwo es (set α i (record { command = iprotect q b; principal = some p; result = handle η }))

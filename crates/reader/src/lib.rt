@@ -5,12 +5,13 @@ ghost use mathlib.Core.List.{List};
 ghost use lib.ListN.{length, take, drop};
 ghost use Rattle.record.specs.Layout.{kindOf};
 ghost use Rattle.record.specs.Read.{fromLittle, read};
-ghost use Rattle.record.specs.Meaning.{bytesIn, callIn, readingIn, PartWithin, CallWithin, ReadingWithin};
+ghost use Rattle.record.specs.Meaning.{bytesIn, callIn, readingIn, wayIn, numberIn, ByItsWay, PartWithin, CallWithin, ReadingWithin};
 ghost use Rattle.reader.specs.Scan.{takenIn, fieldAt, TakenWithin, threeIn, threeAt, ThreeWithin, callOf, contentsIn, fieldsIn};
 use fnv::Tag;
 use record::Call;
 use record::Draw;
 use record::Fields;
+use record::First;
 use record::Handle;
 use record::LegalMap;
 use record::Part;
@@ -39,7 +40,7 @@ fn wide(x: u8) -> u64
 }
 
 // The number of `width` bytes, lowest first. The highest is taken in first.
-fn number_at(bytes: &[u8], at: usize, width: usize) -> u64
+pub fn number_at(bytes: &[u8], at: usize, width: usize) -> u64
     requires { ⌜ at + width ≤ length (now bytes) ⌝ }
     requires { ⌜ width ≤ 8 ⌝ }
     ensures { λ r. ⌜ r ≡ fromLittle (take width (drop at (now (bytes .entry)))) ⌝ }
@@ -94,6 +95,20 @@ fn three_at(bytes: &[u8], at: usize, map: u8, bit: u8, width: usize) -> Three
     }
 }
 
+// The number of a chain is a tag where its first way is 2, a handle where it is 3.
+fn first_link(way: u8, number: u64) -> First
+    ensures { λ r. ⌜ (wayIn r ≡ way) × (numberIn r ≡ number) ⌝ }
+    ensures { λ r. ⌜ ByItsWay r ⌝ }
+{
+    if way == 2 {
+        return First::Logged(Tag(number));
+    }
+    if way == 3 {
+        return First::Escrowed(Handle(number));
+    }
+    First::Neither { way, number }
+}
+
 // The call of a kind. The reader asks it of kinds of the table alone; for any other number it is a report.
 fn call_of(kind: u8, f: Fields, bytes: Part) -> Call
     ensures { λ r. ⌜ ((bs : List ℕ) → callIn bs r ≡ callOf (kindOf kind) f (bytesIn bs bytes)) ⌝ }
@@ -137,6 +152,11 @@ fn call_of(kind: u8, f: Fields, bytes: Part) -> Call
             handle: Handle(number),
         },
         14 => Call::HandOver { place },
+        15 => Call::Chain {
+            identity,
+            first: first_link(place, number),
+            bytes,
+        },
         _ => Call::Report,
     }
 }

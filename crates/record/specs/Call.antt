@@ -19,3 +19,5 @@ pub data Call : Type 0 where
   report : Call
   -- place 16: none
   handOver : (place : ℕ) → Call
+  -- the first link's way, identity, and tag or handle; the logged values
+  chain : (way identity number : ℕ) (bytes : List ℕ) → Call

@@ -1,21 +1,35 @@
 -- What each case of the code's enums means: document 01's numbers and values.
 use Prim.Native.Nat.{ℕ, _+_, _≤_}
+use mathlib.Core.Path.{_≡_}
 use mathlib.Core.List.{List}
 use lib.ListN.{length, take, drop}
 use Rattle.record.specs.declared.Part.{Part}
+use Rattle.record.specs.declared.First.{First}
+use Rattle.record.specs.declared.First.the-variants.{Logged, Escrowed, Neither}
 use Rattle.record.specs.declared.Call as code
-use Rattle.record.specs.declared.Call.the-variants.{Create, Exit, HeapWrite, HeapRead, SharedWrite, SharedRead, Attest, Check, Protect, Retrieve, Report, HandOver}
+use Rattle.record.specs.declared.Call.the-variants.{Create, Exit, HeapWrite, HeapRead, SharedWrite, SharedRead, Attest, Check, Protect, Retrieve, Report, HandOver, Chain}
 use Rattle.record.specs.declared.Reading as found
 use Rattle.record.specs.declared.Reading.the-variants.{Whole, Cut, UnknownKind, WrongMap}
 use Rattle.record.specs.declared.LegalMap as legal
 use Rattle.record.specs.declared.LegalMap.the-variants.{Map, NoSuchKind}
-use Rattle.record.specs.Call.{Call, create, exit, heapWrite, heapRead, sharedWrite, sharedRead, attest, check, protect, retrieve, report, handOver}
+use Rattle.record.specs.Call.{Call, create, exit, heapWrite, heapRead, sharedWrite, sharedRead, attest, check, protect, retrieve, report, handOver, chain}
 use Rattle.record.specs.Layout.{OrRefusal, gives, refuses}
 use Rattle.record.specs.Read.{Reading, whole, cut, unknown, wrongMap}
 
 -- the bytes of a bytes field
 unfoldable pub bytesIn : List ℕ → Part → List ℕ
 bytesIn bs p = take (p .count) (drop (p .start) bs)
+
+-- the way and the number of a chain's first link
+unfoldable pub wayIn : First → ℕ
+wayIn (Logged g) = 2
+wayIn (Escrowed h) = 3
+wayIn (Neither w x) = w
+
+unfoldable pub numberIn : First → ℕ
+numberIn (Logged g) = g .0
+numberIn (Escrowed h) = h .0
+numberIn (Neither w x) = x
 
 -- the call of a record's bytes
 unfoldable pub callIn : List ℕ → code.Call → Call
@@ -31,6 +45,7 @@ callIn bs (Protect i o n d) = protect i o n d
 callIn bs (Retrieve i o h) = retrieve i o h
 callIn bs Report = report
 callIn bs (HandOver p) = handOver p
+callIn bs (Chain i f v) = chain (wayIn f) i (numberIn f) (bytesIn bs v)
 
 unfoldable pub readingIn : List ℕ → found.Reading → Reading
 readingIn bs (Whole c used) = whole (callIn bs c) used
@@ -42,6 +57,13 @@ readingIn bs WrongMap = wrongMap
 unfoldable pub PartWithin : List ℕ → Part → Type 0
 PartWithin bs p = p .start + p .count ≤ length bs
 
+-- a first link by neither has another way than 2 and 3
+unfoldable pub ByItsWay : First → Type 0
+ByItsWay (Logged g) = Unit {0}
+ByItsWay (Escrowed h) = Unit {0}
+ByItsWay (Neither w x) = (w ≡ 2 → ⊥) × (w ≡ 3 → ⊥)
+
+-- what the reader promises of a call: its bytes field lies within the record, its first link is by its way
 unfoldable pub CallWithin : List ℕ → code.Call → Type 0
 CallWithin bs (Create p i) = Unit {0}
 CallWithin bs Exit = Unit {0}
@@ -55,6 +77,7 @@ CallWithin bs (Protect i o n d) = Unit {0}
 CallWithin bs (Retrieve i o h) = Unit {0}
 CallWithin bs Report = Unit {0}
 CallWithin bs (HandOver p) = Unit {0}
+CallWithin bs (Chain i f v) = PartWithin bs v × ByItsWay f
 
 unfoldable pub ReadingWithin : List ℕ → found.Reading → Type 0
 ReadingWithin bs (Whole c used) = CallWithin bs c × (used ≤ length bs)

@@ -17,6 +17,13 @@ pub struct Part {
     pub count: u16,
 }
 
+// The first link of a chain, as its way says: by its tag (2), by its handle (3), or by neither, where no link has such a way.
+pub enum First {
+    Logged(Tag),
+    Escrowed(Handle),
+    Neither { way: u8, number: u64 },
+}
+
 // A call: a kind and the fields of its map, no others.
 pub enum Call {
     Create {
@@ -66,6 +73,12 @@ pub enum Call {
     // Place 16: none runs.
     HandOver {
         place: u8,
+    },
+    // The first link's identity, and its tag or handle; the bytes hold the logged values.
+    Chain {
+        identity: u64,
+        first: First,
+        bytes: Part,
     },
 }
 

@@ -10,7 +10,7 @@ use Rattle.record.specs.Call.{retrieve}
 use Rattle.ideal.specs.Step.{found, absent, valueIn, idle, beyond, tests, refusal, move, apply, effect, number, shown, step}
 use Rattle.ideal.specs.Tables.{Tables, tables, stateOf}
 use Rattle.ideal.specs.Box.{laid}
-use Rattle.ideal.proofs.Chain.{failed, passed}
+use Rattle.ideal.proofs.Passing.{failed, passed}
 use Rattle.ideal.specs.Valid.{Valid}
 use Rattle.ideal.proofs.HeapBytes.{replaceHeaps, written-bytes}
 use Rattle.state.specs.Parts.{heapByte}

@@ -38,7 +38,13 @@ fn row_is(row: EscrowRow, handle: Handle, source: u64, recipient: u64) -> bool
 }
 
 // The first of the first n rows with this handle, source and recipient.
-fn find_row(rows: [EscrowRow; 64], n: usize, handle: Handle, source: u64, recipient: u64) -> Found
+pub fn find_row(
+    rows: [EscrowRow; 64],
+    n: usize,
+    handle: Handle,
+    source: u64,
+    recipient: u64,
+) -> Found
     requires { ⌜ n ≤ 64 ⌝ }
     ensures { λ r. ⌜ FoundWithin n r ⌝ }
     ensures { λ r. ⌜ ((values : List ℕ) → entryFound values rows r ≡ sought (find (isEscrowed handle source recipient) (entriesOf escrowTable values (take n rows)))) ⌝ }

@@ -14,7 +14,7 @@ use Rattle.ideal.specs.Tables.{Tables, takenMap, flat, boxRecord, tables, state
 use Rattle.ideal.specs.Box.{laid}
 use Rattle.ideal.specs.History.{ones}
 use Rattle.ideal.specs.Valid.{Valid}
-use Rattle.ideal.proofs.Chain.{failed}
+use Rattle.ideal.proofs.Passing.{failed}
 use Rattle.ideal.proofs.Kept.{cleared-length, busy}
 use Rattle.ideal.proofs.Heaps.{flat-length}
 use Rattle.ideal.proofs.HeapBytes.{replaced-bytes}

@@ -12,7 +12,7 @@ use Rattle.ideal.specs.Step.{beyond, tests, refusal, move, apply, effect, numbe
 use Rattle.ideal.specs.Tables.{Tables, tables, stateOf}
 use Rattle.ideal.specs.Box.{laid}
 use Rattle.ideal.specs.Valid.{Valid}
-use Rattle.ideal.proofs.Chain.{failed}
+use Rattle.ideal.proofs.Passing.{failed}
 use Rattle.ideal.proofs.HeapBytes.{replaceShared, shared-bytes}
 use Rattle.ideal.proofs.Table.{part-length}
 use Rattle.state.proofs.Settled.{answerOf, part-settled, Moves, laid-step}

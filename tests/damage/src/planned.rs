@@ -1,6 +1,6 @@
 //! Each damage alone, each pair of damages, each wrong size, each cut of a record.
 
-use differential::calls::{attest, create, hand_over, record_of};
+use differential::calls::{attest, chain, create, hand_over, record_of};
 use differential::records::WRONG_OUTPUT_SIZES;
 use differential::{bases, broken, damages, pairs, play, Cut, Next, Random, LAYOUTS};
 use interface::Sides;
@@ -11,7 +11,8 @@ use crate::counts::Counts;
 /// Malformed records, and whole ones of which most would alter something.
 fn records() -> Vec<Vec<u8>> {
     let bytes: [&[u8]; 6] = [&[], &[2], &[1], &[3, 2, 0], &[1, 14], &[7, 1, 0, 1]];
-    let calls = [Call::Report, hand_over(NONE_RUNS), Call::Exit, create(9, 1), attest(1, 2)];
+    let chain = chain(2, 77, 1, b"\x01\x00\x01");
+    let calls = [Call::Report, hand_over(NONE_RUNS), Call::Exit, create(9, 1), attest(1, 2), chain];
     bytes.iter().map(|bytes| bytes.to_vec()).chain(calls.iter().map(record_of)).collect()
 }
 
@@ -67,7 +68,7 @@ pub fn damages_in_pairs(counts: &mut Counts) {
                 done += 1;
                 let mut sides = Sides::new(host, vec![7; OUTPUT_SIZE]);
                 let what = format!("{}, {}", first.name, second.name);
-                let two = [random.pick(&[0, 1, 2, 3, 4, 5]), random.pick(&[6, 7, 8, 9, 10])];
+                let two = [random.pick(&[0, 1, 2, 3, 4, 5]), random.pick(&[6, 7, 8, 9, 10, 11])];
                 not_sound(counts, &mut sides, &two.map(|n| records[n].clone()), &what);
             }
         }

@@ -1,19 +1,21 @@
 //! Random boxes, damaged or not, random records and random writings.
 
-use differential::records::{any, output_size, Known, KINDS};
-use differential::{damages, play, scramble, Random};
+use differential::calls::{hand_over, record_of};
+use differential::records::{any, held_chain, output_size, Known, KINDS};
+use differential::{damages, play, play_chains, scramble, Random};
 use interface::{write, Sides};
 use second::OUTPUT_SIZE;
 
 use crate::counts::Counts;
 
 /// A script played call by call, calls on the box that it leads to, calls on
-/// damaged copies of that box, and writings.
+/// damaged copies of that box, chains on a box with links, and writings.
 pub fn round(counts: &mut Counts, seed: u64) {
     let mut random = Random::new(seed ^ 0x5EED_0000_0000);
     script(counts, seed);
     sound(counts, seed, &mut random);
     damaged(counts, seed, &mut random);
+    chains(counts, seed, &mut random);
     for _ in 0..100 {
         writing(counts, seed, &mut random);
     }
@@ -63,10 +65,26 @@ fn damaged(counts: &mut Counts, seed: u64, random: &mut Random) {
     }
 }
 
+/// Chains over what a sound box holds, half of them with one thing wrong, for each
+/// service in turn.
+fn chains(counts: &mut Counts, seed: u64, random: &mut Random) {
+    let mut sides = Sides::new(play_chains(seed).host, vec![7; OUTPUT_SIZE]);
+    for place in 0..16 {
+        let chained = || format!("chains for place {place}, seed {seed}");
+        let handed_over = counts.call(&mut sides, &record_of(&hand_over(place)), chained);
+        if handed_over.map_or(false, |answer| answer.code == 0) {
+            let known = Known::of(&sides.second);
+            for _ in 0..8 {
+                counts.call(&mut sides, &held_chain(random, &known), chained);
+            }
+        }
+    }
+}
+
 /// Any kind, the retired ones too, any fields, a buffer about as long as the
 /// record.
 fn writing(counts: &mut Counts, seed: u64, random: &mut Random) {
-    let kind = if random.once_in(8) { random.byte() } else { random.between(0, 15) as u8 };
+    let kind = if random.once_in(8) { random.byte() } else { random.between(0, 16) as u8 };
     let fields = interface::Fields {
         place: random.byte(),
         identity: random.u64(),
@@ -79,7 +97,8 @@ fn writing(counts: &mut Counts, seed: u64, random: &mut Random) {
         _ => random.index(300),
     };
     let bytes = random.bytes(count, 256);
-    let room = random.pick(&[0, 1, 2, 3, 6, 11, 20, 22, 64, count + 6, count + 7, count + 20]);
+    let room = [0, 1, 2, 3, 6, 11, 20, 22, 64, count + 6, count + 7, count + 20, count + 21];
+    let room = random.pick(&room);
     let room = (room + random.index(3)).saturating_sub(1);
     let before = random.bytes(room, 256);
     let (mut out, mut wanted_out) = (before.clone(), before.clone());

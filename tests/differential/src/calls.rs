@@ -1,6 +1,6 @@
 //! Calls in few words, and their records.
 
-use second::{write_call, Call, Draw, Handle, Tag};
+use second::{write_call, Call, Draw, Handle, Link, Tag};
 
 pub fn create(place: u8, identity: u64) -> Call<'static> {
     Call::Create { place, identity }
@@ -40,6 +40,11 @@ pub fn retrieve(identity: u64, offset: u16, handle: u64) -> Call<'static> {
 
 pub fn hand_over(place: u8) -> Call<'static> {
     Call::HandOver { place }
+}
+
+/// `number` is the first link's tag or handle.
+pub fn chain(way: u8, identity: u64, number: u64, bytes: &[u8]) -> Call<'_> {
+    Call::Chain { first: Link { way, identity, number }, bytes }
 }
 
 /// The call's record. Its bytes must be at most 65,535.

@@ -22,7 +22,7 @@ const COUNT: usize = 2;
 
 /// The kinds. 2 and 3 are retired.
 #[rustfmt::skip]
-pub const LAYOUTS: [Layout; 12] = [
+pub const LAYOUTS: [Layout; 13] = [
     Layout { kind: 1, map: 0x07, widths: &[PLACE, IDENTITY], bytes: false },
     Layout { kind: 4, map: 0x01, widths: &[], bytes: false },
     Layout { kind: 5, map: 0x4B, widths: &[PLACE, OFFSET], bytes: true },
@@ -35,6 +35,7 @@ pub const LAYOUTS: [Layout; 12] = [
     Layout { kind: 12, map: 0x2D, widths: &[IDENTITY, OFFSET, NUMBER], bytes: false },
     Layout { kind: 13, map: 0x01, widths: &[], bytes: false },
     Layout { kind: 14, map: 0x03, widths: &[PLACE], bytes: false },
+    Layout { kind: 15, map: 0x67, widths: &[PLACE, IDENTITY, NUMBER], bytes: true },
 ];
 
 impl Layout {
@@ -178,7 +179,7 @@ mod tests {
             assert_eq!(layout.map >> 6 == 1, layout.bytes, "kind {}", layout.kind);
         }
         let lengths = LAYOUTS.map(|layout| layout.record(0, 3).len());
-        assert_eq!(lengths, [11, 2, 10, 7, 9, 6, 6, 23, 22, 20, 2, 3]);
+        assert_eq!(lengths, [11, 2, 10, 7, 9, 6, 6, 23, 22, 20, 2, 3, 24]);
     }
 
     /// What each kind misses, cut at each of its bytes, written out.
@@ -197,6 +198,7 @@ mod tests {
             "11876543212187654321",
             "11",
             "111",
+            "111876543218765432121321",
         ];
         for (layout, digits) in LAYOUTS.iter().zip(written) {
             for fill in [0x00, 0xFF] {
@@ -245,5 +247,8 @@ mod tests {
         assert_eq!(next(7, 5, 1), Next::Missing(256 + 3));
         assert_eq!(next(7, 6, 1), Next::Whole);
         assert_eq!(next(14, 2, 99), Next::Whole);
+        assert_eq!(next(15, 2, 0), Next::Missing(8));
+        assert_eq!(next(15, 19, 0), Next::Whole);
+        assert_eq!(next(15, 19, 2), Next::Missing(514));
     }
 }

@@ -1,18 +1,21 @@
 //! Plays random calls on a fresh box and writes their records down. Most calls
 //! are acceptable, so that full logs and escrows are reached.
 
+use std::collections::VecDeque;
+
 use second::{
-    read, tag_of, Answer, Call, Host, SoundBox, DRAW_LIMIT, HEAP_SIZE, NONE_RUNS, OUTPUT_SIZE,
-    PLACES, SHARED_SIZE, VALUES_SIZE,
+    read, tag_of, Answer, Call, Host, Link, SoundBox, DRAW_LIMIT, HEAP_SIZE, NONE_RUNS,
+    OUTPUT_SIZE, PLACES, SHARED_SIZE, VALUES_SIZE,
 };
 
 use crate::calls::{
     attest, check, create, hand_over, heap_read, heap_write, protect, record_of, retrieve,
     shared_read, shared_write,
 };
+use crate::held::{link_value, Escrowed, Logged};
 use crate::random::Random;
 use crate::records::{self, Known};
-use crate::style::{Style, STYLES};
+use crate::style::{Style, LINK, STYLES};
 
 /// A script and the sound box that it leads to, but for its last records: up to
 /// four of them may be anything, malformed and cut too.
@@ -23,8 +26,17 @@ pub struct Played {
 
 /// Plays a script of up to some hundred calls. The seed decides all of it.
 pub fn play(seed: u64) -> Played {
+    play_one_of(seed, &STYLES)
+}
+
+/// As [`play`], in the styles of chains alone.
+pub fn play_chains(seed: u64) -> Played {
+    play_one_of(seed, &STYLES[STYLES.len() - 2..])
+}
+
+fn play_one_of(seed: u64, styles: &[Style]) -> Played {
     let mut random = Random::new(seed);
-    let style = STYLES[(seed % STYLES.len() as u64) as usize];
+    let style = styles[(seed % styles.len() as u64) as usize];
     let calls = random.between(style.calls / 4, style.calls);
     let (host, mut script) = played_on_fresh(&mut random, style, |player| {
         for _ in 0..calls {
@@ -86,39 +98,26 @@ fn identities(random: &mut Random, count: usize) -> Vec<u64> {
     (0..count).map(identity).map(|identity| identity.max(1)).collect()
 }
 
-#[derive(Clone, PartialEq, Eq)]
-struct Logged {
-    identity: u64,
-    tag: u64,
-    value: Vec<u8>,
-}
-
-#[derive(Clone, Copy)]
-struct Escrowed {
-    source: u64,
-    recipient: u64,
-    handle: u64,
-    length: u16,
-}
-
 /// Chooses calls by what it remembers of the answers before.
 struct Player<'a> {
     sound_box: SoundBox<'a>,
     random: &'a mut Random,
     style: Style,
-    /// The identities to choose from, and the tags and handles given so far.
+    /// The identities to choose from, the tags and handles given so far, and what
+    /// is held.
     known: Known,
     /// The identity in each place, 0 where it is empty.
     places: [u64; PLACES],
     running: Option<u8>,
-    logged: Vec<Logged>,
-    escrowed: Vec<Escrowed>,
+    /// Records to make next: a link value is logged or escrowed as soon as it
+    /// stands in the heap.
+    planned: VecDeque<Vec<u8>>,
     script: Vec<u8>,
 }
 
 impl<'a> Player<'a> {
     fn new(sound_box: SoundBox<'a>, random: &'a mut Random, style: Style) -> Self {
-        let known = Known { identities: identities(random, style.identities), numbers: Vec::new() };
+        let known = Known { identities: identities(random, style.identities), ..Known::default() };
         Player {
             sound_box,
             random,
@@ -126,8 +125,7 @@ impl<'a> Player<'a> {
             known,
             places: [0; PLACES],
             running: None,
-            logged: Vec::new(),
-            escrowed: Vec::new(),
+            planned: VecDeque::new(),
             script: Vec::new(),
         }
     }
@@ -140,6 +138,7 @@ impl<'a> Player<'a> {
             let (call, _) = read(&record).expect("an accepted record was read");
             self.remember(&call, &answer);
         }
+        self.known.recipient = self.runner();
         self.script.extend(record);
     }
 
@@ -155,15 +154,17 @@ impl<'a> Player<'a> {
             Call::Attest { offset, length } => {
                 let (identity, tag) = (self.runner(), answer.number);
                 let logged = Logged { identity, tag, value: self.heap_part(offset, length) };
-                if !self.logged.contains(&logged) {
+                if !self.known.held.logged.contains(&logged) {
                     self.known.numbers.push(tag);
-                    self.logged.push(logged);
+                    self.known.held.logged.push(logged);
                 }
             }
-            Call::Protect { identity, length, .. } => {
+            Call::Protect { identity, offset, length, .. } => {
                 let (source, handle) = (self.runner(), answer.number);
                 self.known.numbers.push(handle);
-                self.escrowed.push(Escrowed { source, recipient: identity, handle, length });
+                let value = self.heap_part(offset, length);
+                let row = Escrowed { source, recipient: identity, handle, value };
+                self.known.held.escrowed.push(row);
             }
             _ => {}
         }
@@ -184,6 +185,9 @@ impl<'a> Player<'a> {
 
     /// The next record.
     fn record(&mut self) -> Vec<u8> {
+        if let Some(planned) = self.planned.pop_front() {
+            return planned;
+        }
         if self.random.once_in(self.style.loose) {
             return records::whole(self.random, &self.known);
         }
@@ -194,11 +198,12 @@ impl<'a> Player<'a> {
     }
 
     fn while_none_runs(&mut self) -> Vec<u8> {
-        match self.random.below(12) {
-            0 => self.check(),
-            1 => self.shared_write(),
-            2 => self.shared_read(),
-            3 | 4 => self.create(),
+        match self.random.below(24) {
+            0 | 1 => self.check(),
+            2 | 3 => self.shared_write(),
+            4 | 5 => self.shared_read(),
+            6..=9 => self.create(),
+            10 => records::held_chain(self.random, &self.known),
             _ => self.hand_over(),
         }
     }
@@ -216,6 +221,8 @@ impl<'a> Player<'a> {
             11 => self.protect(),
             12 => self.retrieve(),
             14 => self.hand_over(),
+            15 => records::held_chain(self.random, &self.known),
+            LINK => self.link(place),
             _ => record_of(&Call::Report),
         }
     }
@@ -311,7 +318,7 @@ impl<'a> Player<'a> {
     }
 
     fn attest(&mut self) -> Vec<u8> {
-        let used = self.logged.iter().map(|logged| logged.value.len()).sum();
+        let used = self.known.held.logged.iter().map(|logged| logged.value.len()).sum();
         let length = self.value_length(used);
         record_of(&attest(self.offset(HEAP_SIZE, length), length))
     }
@@ -320,12 +327,13 @@ impl<'a> Player<'a> {
     /// with the tag it would have.
     fn check(&mut self) -> Vec<u8> {
         let other = self.random.pick(&self.known.identities);
-        if self.logged.is_empty() || self.random.once_in(8) {
+        let logged = &self.known.held.logged;
+        if logged.is_empty() || self.random.once_in(8) {
             let value = self.random.bytes(2, self.style.alphabet);
             return record_of(&check(other, tag_of(other, &value).0, &value));
         }
-        let chosen = self.random.index(self.logged.len());
-        let Logged { mut identity, mut tag, mut value } = self.logged[chosen].clone();
+        let chosen = self.random.index(logged.len());
+        let Logged { mut identity, mut tag, mut value } = logged[chosen].clone();
         match self.random.below(8) {
             0 => tag ^= 1 << self.random.below(64),
             1 => identity = other,
@@ -339,27 +347,120 @@ impl<'a> Player<'a> {
     /// The draws lie on both sides of 0, so that the search for a handle wraps.
     fn protect(&mut self) -> Vec<u8> {
         let recipient = self.random.pick(&self.known.identities);
-        let used = self.escrowed.iter().map(|escrowed| usize::from(escrowed.length)).sum();
+        let used = self.known.held.escrowed.iter().map(|escrowed| escrowed.value.len()).sum();
         let length = self.value_length(used);
-        let draws = self.style.draws;
-        let draw = (DRAW_LIMIT - draws / 2 + self.random.below(draws)) % DRAW_LIMIT;
+        let draw = self.draw();
         record_of(&protect(recipient, self.offset(HEAP_SIZE, length), length, draw))
+    }
+
+    fn draw(&mut self) -> u64 {
+        let draws = self.style.draws;
+        (DRAW_LIMIT - draws / 2 + self.random.below(draws)) % DRAW_LIMIT
     }
 
     /// Mostly a value escrowed for the running identity, if there is one.
     fn retrieve(&mut self) -> Vec<u8> {
         let runner = self.runner();
-        let mine: Vec<Escrowed> =
-            self.escrowed.iter().copied().filter(|row| row.recipient == runner).collect();
-        let all = if mine.is_empty() || self.random.once_in(8) { &self.escrowed } else { &mine };
-        if all.is_empty() {
+        let escrowed = &self.known.held.escrowed;
+        let mut rows: Vec<&Escrowed> =
+            escrowed.iter().filter(|row| row.recipient == runner).collect();
+        if rows.is_empty() || self.random.once_in(8) {
+            rows = escrowed.iter().collect();
+        }
+        if rows.is_empty() {
             return record_of(&Call::Report);
         }
-        let Escrowed { mut source, handle, length, .. } = self.random.pick(all);
+        let row = self.random.pick(&rows);
+        let (mut source, handle, length) = (row.source, row.handle, row.value.len() as u16);
         if self.random.once_in(8) {
             source = self.random.pick(&self.known.identities);
         }
         record_of(&retrieve(source, self.offset(HEAP_SIZE, length), handle))
+    }
+
+    /// A link value into the heap; it is logged or escrowed next. Mostly it names
+    /// the newest link there is, so that chains grow beyond sixteen links.
+    fn link(&mut self, place: u8) -> Vec<u8> {
+        if self.random.once_in(24) {
+            return self.ring(place);
+        }
+        let next = self.next_link();
+        let most = self.random.pick(&[0, 0, 1, 20]);
+        let payload = self.random.index(most + 1);
+        let mut value = link_value(next, &self.random.bytes(payload, 4));
+        if self.random.once_in(12) {
+            self.spoil_head(&mut value);
+        }
+        let length = value.len() as u16;
+        let offset = self.offset(HEAP_SIZE, length);
+        let put = match self.random.below(2) {
+            0 => attest(offset, length),
+            _ => protect(self.reader(), offset, length, self.draw()),
+        };
+        self.planned.push_back(record_of(&put));
+        record_of(&heap_write(place, offset, &value))
+    }
+
+    /// What a link value names: mostly the newest link of a whole chain; none now
+    /// and then, and where there is none yet; seldom a fault.
+    fn next_link(&mut self) -> Option<Link> {
+        let (held, reader) = (&self.known.held, self.known.identities[0]);
+        let (rows, links) = (held.rows(reader), held.links(reader));
+        let newest = |way| {
+            let mut newest = links.iter().copied().rev().filter(|link| link.way == way).take(3);
+            newest.find(|&link| held.whole(reader, link).is_some())
+        };
+        let longest = newest(2).into_iter().chain(newest(3));
+        let longest = longest.max_by_key(|&link| held.whole(reader, link));
+        let malformed = rows.iter().copied().rev().find(|row| !links.contains(row));
+        match self.random.below(32) {
+            0 => None,
+            1 => longest.map(|link| Link { identity: 0, ..link }),
+            2 => longest.map(|link| Link { number: link.number ^ 1, ..link }),
+            3 | 4 if !links.is_empty() => Some(self.random.pick(&links)),
+            5 if !rows.is_empty() => Some(self.random.pick(&rows)),
+            6 | 7 => malformed.or(longest),
+            _ => longest,
+        }
+    }
+
+    /// For whom links are escrowed: mostly the first of the identities, so that
+    /// whole chains are for one recipient.
+    fn reader(&mut self) -> u64 {
+        match self.random.below(16) {
+            0 => self.random.pick(&self.known.identities),
+            1 => self.runner(),
+            _ => self.known.identities[0],
+        }
+    }
+
+    /// An empty value, another first byte, or one byte too few behind a 2 or 3.
+    fn spoil_head(&mut self, value: &mut Vec<u8>) {
+        match self.random.below(3) {
+            0 => value.clear(),
+            1 => value[0] = self.random.pick(&[0, 4, 255]),
+            _ => value.truncate(16),
+        }
+    }
+
+    /// A chain that comes back on itself, by a handle told ahead: an escrowed
+    /// value that names its own handle, or a logged and an escrowed value that
+    /// name each other. Where the handle is in use the chain leads elsewhere.
+    fn ring(&mut self, place: u8) -> Vec<u8> {
+        let (identity, draw) = (self.runner(), self.draw());
+        let escrowed = Link { way: 3, identity, number: 17 * DRAW_LIMIT + draw };
+        let put = record_of(&protect(identity, 0, 17, draw));
+        let value = link_value(Some(escrowed), &[]);
+        if self.random.once_in(2) {
+            self.planned.push_back(put);
+            return record_of(&heap_write(place, 0, &value));
+        }
+        let logged = Link { way: 2, identity, number: tag_of(identity, &value).0 };
+        let named = link_value(Some(logged), &[]);
+        self.planned.push_back(record_of(&attest(0, 17)));
+        self.planned.push_back(record_of(&heap_write(place, 0, &named)));
+        self.planned.push_back(put);
+        record_of(&heap_write(place, 0, &value))
     }
 }
 

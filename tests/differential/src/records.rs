@@ -1,8 +1,10 @@
 //! Record bytes made with no regard to what a call on them would answer, and
 //! sizes of output buffers.
 
-use second::{write, Fields, Host, DRAW_LIMIT, HEAP_SIZE, OUTPUT_SIZE, SHARED_SIZE};
+use second::{tag_of, write, Fields, Host, Link, DRAW_LIMIT, HEAP_SIZE, OUTPUT_SIZE, SHARED_SIZE};
 
+use crate::calls::{chain, record_of};
+use crate::held::{counted, Held};
 use crate::random::Random;
 
 /// Offsets, lengths and counts at the limits of heap and shared memory.
@@ -14,7 +16,7 @@ const NUMBERS: [u64; 8] =
     [0, 1, 2, DRAW_LIMIT - 1, DRAW_LIMIT, DRAW_LIMIT + 1, 256 * DRAW_LIMIT, u64::MAX];
 
 /// The numbers of the kinds. 2 and 3 are retired.
-pub const KINDS: [u8; 12] = [1, 4, 5, 6, 7, 8, 9, 10, 11, 12, 13, 14];
+pub const KINDS: [u8; 13] = [1, 4, 5, 6, 7, 8, 9, 10, 11, 12, 13, 14, 15];
 
 /// What a record may name so that it fits a box.
 #[derive(Default)]
@@ -22,11 +24,15 @@ pub struct Known {
     pub identities: Vec<u64>,
     /// Tags and handles.
     pub numbers: Vec<u64>,
+    /// The rows with their values, and for whom chains over them are.
+    pub held: Held,
+    pub recipient: u64,
 }
 
 impl Known {
     /// What stands in a host's tables.
     pub fn of(host: &Host) -> Self {
+        let running = usize::from(host.record.running);
         let places = host.record.identities.iter().copied();
         let loggers = host.log.iter().map(|row| row.identity);
         let sources = host.escrow.iter().map(|row| row.source);
@@ -36,6 +42,8 @@ impl Known {
         Known {
             identities: places.chain(loggers).chain(sources).chain(recipients).collect(),
             numbers: tags.chain(handles).collect(),
+            held: Held::of(host),
+            recipient: host.record.identities.get(running).copied().unwrap_or(0),
         }
     }
 }
@@ -43,8 +51,15 @@ impl Known {
 /// A whole record of a random kind. Any field may be at fault, or several.
 pub fn whole(random: &mut Random, known: &Known) -> Vec<u8> {
     let kind = random.pick(&KINDS);
+    if kind == 15 && !random.once_in(3) {
+        return held_chain(random, known);
+    }
     let fields = Fields {
-        place: if kind == 14 { handed_over_to(random) } else { place(random) },
+        place: match kind {
+            14 => handed_over_to(random),
+            15 => way(random),
+            _ => place(random),
+        },
         identity: identity(random, known),
         offset: edge(random),
         length: edge(random),
@@ -73,6 +88,93 @@ fn handed_over_to(random: &mut Random) -> u8 {
         1 => random.pick(&[15, 16, 17, 255]),
         _ => place(random),
     }
+}
+
+/// Mostly logged or escrowed.
+fn way(random: &mut Random) -> u8 {
+    match random.below(8) {
+        0 => random.byte(),
+        1 => random.pick(&[0, 1, 4, 255]),
+        _ => random.pick(&[2, 3]),
+    }
+}
+
+/// A chain over the rows that are held, with the bytes that it wants, half of the
+/// time with one thing wrong. One of no plan where no row begins a chain.
+pub fn held_chain(random: &mut Random, known: &Known) -> Vec<u8> {
+    let rows = known.held.rows(known.recipient);
+    let links = known.held.links(known.recipient);
+    let first = match random.below(8) {
+        0 if !rows.is_empty() => random.pick(&rows),
+        1 => any_link(random, known),
+        2 if random.once_in(2) => return unlogged_chain(random, known),
+        _ if links.is_empty() => any_link(random, known),
+        2 | 3 => longest(&links, known),
+        _ => random.pick(&links),
+    };
+    let bytes = known.held.bytes_for(first);
+    let (first, bytes) =
+        if random.once_in(2) { spoilt(random, known, first, bytes) } else { (first, bytes) };
+    record_of(&chain(first.way, first.identity, first.number, &bytes))
+}
+
+/// A logged link that most often was never logged, with the tag that it would
+/// have. It ends the chain, and may be longer than any value.
+fn unlogged_chain(random: &mut Random, known: &Known) -> Vec<u8> {
+    let identity = identity(random, known);
+    let count = random.pick(&[0, 1, 2, 3, 255, 256, 257, 300]);
+    let value = [vec![1], random.bytes(count, 3)].concat();
+    record_of(&chain(2, identity, tag_of(identity, &value).0, &counted(&value)))
+}
+
+/// The link with most links behind it. Of chains that are too long the first has
+/// a single link too many, if any has.
+fn longest(links: &[Link], known: &Known) -> Link {
+    let whole = |link: &&Link| known.held.whole(known.recipient, **link).unwrap_or(0);
+    let longest = links.iter().rev().max_by_key(whole);
+    *longest.expect("there is a link")
+}
+
+fn any_link(random: &mut Random, known: &Known) -> Link {
+    Link { way: way(random), identity: identity(random, known), number: number(random, known) }
+}
+
+/// Where the last of the chain bytes' values begins, its count included.
+fn last_value(bytes: &[u8]) -> usize {
+    let mut last = 0;
+    let mut rest = bytes;
+    while let [low, high, behind @ ..] = rest {
+        last = bytes.len() - rest.len();
+        rest = behind.get(usize::from(*low) + 256 * usize::from(*high)..).unwrap_or_default();
+    }
+    last
+}
+
+/// One thing wrong in the call: its way, identity or number, or its bytes cut,
+/// lengthened or altered.
+fn spoilt(
+    random: &mut Random,
+    known: &Known,
+    mut first: Link,
+    mut bytes: Vec<u8>,
+) -> (Link, Vec<u8>) {
+    match random.below(10) {
+        0 => first.way = way(random),
+        1 => first.identity = 0,
+        2 => first.identity = identity(random, known),
+        3 => first.number ^= 1 << random.below(64),
+        4 => bytes.truncate(bytes.len().saturating_sub(1)),
+        5 => bytes.truncate(random.index(bytes.len() + 1)),
+        6 => bytes.truncate(last_value(&bytes) + random.index(2)),
+        7 => bytes.push(random.below(3) as u8),
+        8 => bytes.extend([&[0, 0][..], &[1, 0, 1], &bytes.clone()][random.index(3)]),
+        _ if bytes.is_empty() => bytes.push(0),
+        _ => {
+            let at = random.index(bytes.len());
+            bytes[at] ^= 1 << random.below(8);
+        }
+    }
+    (first, bytes)
 }
 
 fn identity(random: &mut Random, known: &Known) -> u64 {
@@ -154,8 +256,8 @@ pub fn noise(random: &mut Random) -> Vec<u8> {
     let count = random.index(41);
     let mut noise = random.bytes(count, 256);
     if random.once_in(2) && count >= 2 {
-        noise[0] = random.pick(&[0x01, 0x03, 0x07, 0x19, 0x1B, 0x2D, 0x3D, 0x49, 0x4B, 0x65]);
-        noise[1] = random.between(0, 15) as u8;
+        noise[0] = random.pick(&[0x01, 0x03, 0x07, 0x19, 0x1B, 0x2D, 0x3D, 0x49, 0x4B, 0x65, 0x67]);
+        noise[1] = random.between(0, 16) as u8;
     }
     noise
 }

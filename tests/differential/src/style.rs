@@ -1,5 +1,9 @@
 //! The sorts of scripts that are played.
 
+/// Among the kinds: a link value is written into the heap, then logged or
+/// escrowed.
+pub(crate) const LINK: u8 = 0;
+
 /// What sort of script it becomes.
 #[derive(Clone, Copy)]
 pub(crate) struct Style {
@@ -20,7 +24,7 @@ pub(crate) struct Style {
     pub calls: u16,
 }
 
-pub(crate) const STYLES: [Style; 8] = [
+pub(crate) const STYLES: [Style; 10] = [
     // Many short values: the rows run out.
     Style {
         kinds: &[5, 5, 6, 9, 9, 9, 9, 9, 10, 11, 11, 11, 11, 11, 12, 13, 14],
@@ -43,7 +47,7 @@ pub(crate) const STYLES: [Style; 8] = [
     },
     // Values of every length.
     Style {
-        kinds: &[1, 4, 5, 5, 6, 7, 8, 9, 9, 10, 10, 11, 11, 12, 12, 13, 14],
+        kinds: &[1, 4, 5, 5, 6, 7, 8, 9, 9, 10, 10, 11, 11, 12, 12, 13, 14, 15, LINK],
         values: (0, 256),
         alphabet: 256,
         draws: 1 << 48,
@@ -53,7 +57,7 @@ pub(crate) const STYLES: [Style; 8] = [
     },
     // Tenants come and go.
     Style {
-        kinds: &[1, 1, 4, 4, 5, 5, 6, 6, 9, 10, 11, 12, 13, 14, 14],
+        kinds: &[1, 1, 4, 4, 5, 5, 6, 6, 9, 10, 11, 12, 13, 14, 14, 15, LINK, LINK],
         values: (0, 40),
         alphabet: 256,
         draws: 3,
@@ -83,7 +87,7 @@ pub(crate) const STYLES: [Style; 8] = [
     },
     // Values handed on and checked.
     Style {
-        kinds: &[5, 6, 9, 10, 10, 10, 11, 11, 12, 12, 12, 12, 14, 14],
+        kinds: &[5, 6, 9, 10, 10, 10, 11, 11, 12, 12, 12, 12, 14, 14, 15, 15, LINK, LINK],
         values: (0, 64),
         alphabet: 16,
         draws: 5,
@@ -93,12 +97,32 @@ pub(crate) const STYLES: [Style; 8] = [
     },
     // Every second call is loose.
     Style {
-        kinds: &[1, 4, 5, 6, 7, 8, 9, 9, 10, 11, 11, 12, 13, 14],
+        kinds: &[1, 4, 5, 6, 7, 8, 9, 9, 10, 11, 11, 12, 13, 14, 15, LINK],
         values: (0, 256),
         alphabet: 8,
         draws: 4,
         identities: 3,
         loose: 2,
         calls: 200,
+    },
+    // Chains of many links, for one recipient or another.
+    Style {
+        kinds: &[6, 10, 12, 13, 14, 15, 15, 15, 15, 15, LINK, LINK, LINK, LINK, LINK, LINK],
+        values: (0, 20),
+        alphabet: 4,
+        draws: 1 << 48,
+        identities: 2,
+        loose: 40,
+        calls: 400,
+    },
+    // Short chains: heads of every sort, few draws, tenants that come and go.
+    Style {
+        kinds: &[1, 4, 5, 9, 11, 14, 14, 15, 15, 15, 15, LINK, LINK, LINK],
+        values: (0, 18),
+        alphabet: 5,
+        draws: 3,
+        identities: 3,
+        loose: 12,
+        calls: 240,
     },
 ];

@@ -2,7 +2,7 @@
 
 use std::collections::HashSet;
 
-use differential::{cases, lines, HandOvers, LAYOUTS};
+use differential::{cases, lines, Chains, HandOvers, LAYOUTS};
 use second::sheet;
 
 #[test]
@@ -15,7 +15,7 @@ fn second_prints_what_was_written_by_hand() {
         }
     }
     println!("{by_hand}");
-    assert!(by_hand > 8_000, "{by_hand}");
+    assert!(by_hand > 11_000, "{by_hand}");
 }
 
 #[test]
@@ -41,6 +41,23 @@ fn hand_overs_of_each_sort_and_never_5() {
     }
     println!("{hand_overs}\nrefused and followed by a call of who runs: {left_running}");
     assert!(hand_overs.each_above(100) && left_running > 1_000, "{hand_overs}");
+}
+
+/// The cases have chains of each sort. Each answer follows from what the records
+/// before it and their lines tell, in the sheets of `second` and in those written
+/// by hand.
+#[test]
+fn chains_of_each_sort() {
+    let mut chains = Chains::default();
+    for case in cases::all() {
+        assert!(chains.count(&case.script, &sheet(&case.script)), "{}", case.name);
+        if let Some(written) = &case.sheet {
+            let mut again = Chains::default();
+            assert!(again.count(&case.script, written.as_bytes()), "{}", case.name);
+        }
+    }
+    println!("{chains}");
+    assert!(chains.each_above(20), "{chains}");
 }
 
 /// Every field of every kind is cut at every byte, at the front of a script and

@@ -1,7 +1,7 @@
 //! The damages break what they say, and `second` answers 15 to every call on a
 //! damaged box and alters nothing.
 
-use differential::calls::{attest, create, hand_over, record_of};
+use differential::calls::{attest, chain, create, hand_over, record_of};
 use differential::records::{any, output_size, Known, WRONG_OUTPUT_SIZES};
 use differential::{bases, broken, damages, pairs, play, scramble, Clause, Random};
 use second::{call, is_sound, Answer, Call, Host, NONE_RUNS, OUTPUT_SIZE};
@@ -10,8 +10,9 @@ const REFUSED: Answer = Answer { code: 15, number: 0, used: 0, shown: 0 };
 
 /// Malformed records, and good ones that would alter something.
 fn records() -> Vec<Vec<u8>> {
-    let bytes: [&[u8]; 6] = [&[], &[2], &[1], &[3, 2, 0], &[1, 14], &[7, 1, 0, 1]];
-    let calls = [Call::Report, hand_over(NONE_RUNS), Call::Exit, create(9, 1), attest(1, 2)];
+    let bytes: [&[u8]; 7] = [&[], &[2], &[1], &[3, 2, 0], &[1, 14], &[0x67, 15, 1], &[7, 1, 0, 1]];
+    let chain = chain(2, 77, 1, b"\x01\x00\x01");
+    let calls = [Call::Report, hand_over(NONE_RUNS), Call::Exit, create(9, 1), attest(1, 2), chain];
     let calls = calls.iter().map(record_of);
     bytes.iter().map(|bytes| bytes.to_vec()).chain(calls).collect()
 }
@@ -149,7 +150,7 @@ fn clauses_agree_with_second() {
 fn refusal_15_is_given_exactly_then() {
     let mut random = Random::new(7);
     let boxes = random_boxes();
-    let mut codes = [0; 18];
+    let mut codes = [0; 21];
     for n in 0..4_000 {
         let mut host = boxes[n % boxes.len()].clone();
         let record = any(&mut random, &Known::of(&host));

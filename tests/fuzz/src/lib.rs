@@ -1,15 +1,16 @@
 //! One input of the fuzzer: a box, alterations of it, and records. The proved
 //! box and `second` must agree after each call, in the number too, and never
-//! answer 5, which is retired. What a cut record misses is tried out.
+//! answer 5, which is retired. What a cut record misses is tried out, and where a
+//! chain leads is told from the tables.
 
 #![deny(unsafe_op_in_unsafe_fn)]
 
 use std::slice;
 
 use differential::records::WRONG_OUTPUT_SIZES;
-use differential::{bases, play};
+use differential::{bases, play, Chains, Held};
 use interface::{write, Fields, Sides};
-use second::{read, Call, EscrowRow, Host, LogRow, OUTPUT_SIZE, ROWS};
+use second::{read, Answer, Call, EscrowRow, Host, LogRow, OUTPUT_SIZE, ROWS};
 
 thread_local! {
     static BOXES: Vec<Host> =
@@ -118,6 +119,7 @@ fn calls(sides: &mut Sides, mut rest: &[u8]) {
         if let Ok((call, used)) = read(rest) {
             writings(&call, &rest[..used]);
         }
+        chain(sides, rest, &answer);
         if answer.code == 1 {
             missing(sides, rest, answer.number as usize);
         }
@@ -126,6 +128,18 @@ fn calls(sides: &mut Sides, mut rest: &[u8]) {
         }
         rest = &rest[answer.used..];
     }
+}
+
+/// A chain's answer is the one that follows from what the tables hold.
+fn chain(sides: &Sides, record: &[u8], answer: &Answer) {
+    if answer.used == 0 || record[1] != 15 {
+        return;
+    }
+    let held = Held::of(&sides.second);
+    let second::BoxRecord { running, identities, .. } = sides.second.record;
+    let runner = identities.get(usize::from(running)).copied().unwrap_or(0);
+    let follows = Chains::default().add(&held, runner, record, answer.code, answer.number);
+    assert!(follows, "{answer:?}: {record:02x?}");
 }
 
 /// One byte fewer than is missing leaves one missing. As many as are missing

@@ -1,5 +1,5 @@
 //! The example paper, then every other kind of call, then hand overs of each
-//! sort.
+//! sort, then chains.
 
 use interface::{fresh, write, BoxRecord, EscrowRow, Fields, Host, LogRow, Tally, Used};
 
@@ -7,6 +7,16 @@ use interface::{fresh, write, BoxRecord, EscrowRow, Fields, Host, LogRow, Tally,
 const HANDLE: u64 = 281_474_976_710_663;
 /// FNV-1a of 01 00 00 00 00 00 00 00 41.
 const TAG: u64 = 5_952_190_651_599_004_191;
+
+/// FNV-1a of 03 00 00 00 00 00 00 00 01.
+const END_TAG: u64 = 8_750_169_272_185_725_317;
+/// The handles of length 17 and draws 9 and 10.
+const LINK: u64 = 4_785_074_604_081_161;
+const OWN: u64 = 4_785_074_604_081_162;
+/// The first names the end that identity 3 logged, the second its own handle.
+const LINK_VALUE: [u8; 17] =
+    [2, 3, 0, 0, 0, 0, 0, 0, 0, 0x85, 0x21, 0x2B, 0xB9, 0x97, 0xD8, 0x6E, 0x79];
+const OWN_VALUE: [u8; 17] = [3, 3, 0, 0, 0, 0, 0, 0, 0, 0x0A, 0, 0, 0, 0, 0, 0x11, 0];
 
 /// What the output buffer holds before the first call.
 pub const BEFORE: u8 = 0xEE;
@@ -212,6 +222,218 @@ const HAND_OVERS: [Step; 15] = [
     },
 ];
 
+/// After the hand overs: an end that identity 3 logs, a link that it escrows for
+/// itself and that names the end, and one that names its own handle. Chains are
+/// accepted, and refused with each of their numbers. They alter nothing.
+#[rustfmt::skip]
+const CHAINS: [Step; 22] = [
+    Step {
+        kind: 15, fields: Fields { place: 2, identity: 3, number: END_TAG, ..NO_FIELDS },
+        bytes: &[1, 0, 1],
+        record: &[
+            0x67, 0x0F, 2, 3, 0, 0, 0, 0, 0, 0, 0,
+            0x85, 0x21, 0x2B, 0xB9, 0x97, 0xD8, 0x6E, 0x79, 3, 0, 1, 0, 1,
+        ],
+        answer: (4, 0, 0),
+        alters: |_| (),
+    },
+    Step {
+        kind: 14, fields: Fields { place: 2, ..NO_FIELDS }, bytes: &[],
+        record: &[0x03, 0x0E, 2], answer: (0, 0, 0),
+        alters: |host| host.held.running = 2,
+    },
+    Step {
+        kind: 15, fields: Fields { place: 2, identity: 3, number: END_TAG, ..NO_FIELDS },
+        bytes: &[1, 0, 1],
+        record: &[
+            0x67, 0x0F, 2, 3, 0, 0, 0, 0, 0, 0, 0,
+            0x85, 0x21, 0x2B, 0xB9, 0x97, 0xD8, 0x6E, 0x79, 3, 0, 1, 0, 1,
+        ],
+        answer: (18, 0, 0),
+        alters: |_| (),
+    },
+    Step {
+        kind: 5, fields: Fields { place: 2, ..NO_FIELDS }, bytes: &[1],
+        record: &[0x4B, 0x05, 2, 0, 0, 1, 0, 1], answer: (0, 1, 0),
+        alters: |host| host.heaps()[512] = 1,
+    },
+    Step {
+        kind: 9, fields: Fields { length: 1, ..NO_FIELDS }, bytes: &[],
+        record: &[0x19, 0x09, 0, 0, 1, 0], answer: (0, END_TAG, 0),
+        alters: |host| {
+            host.held.log = Used { rows: 2, bytes: 2 };
+            host.log()[1] = LogRow { identity: 3, tag: END_TAG, first: 1, length: 1 };
+            host.log_values()[1] = 1;
+        },
+    },
+    Step {
+        kind: 15, fields: Fields { place: 2, identity: 3, number: END_TAG, ..NO_FIELDS },
+        bytes: &[1, 0, 1],
+        record: &[
+            0x67, 0x0F, 2, 3, 0, 0, 0, 0, 0, 0, 0,
+            0x85, 0x21, 0x2B, 0xB9, 0x97, 0xD8, 0x6E, 0x79, 3, 0, 1, 0, 1,
+        ],
+        answer: (0, 1, 0),
+        alters: |_| (),
+    },
+    Step {
+        kind: 5, fields: Fields { place: 2, ..NO_FIELDS },
+        bytes: &[2, 3, 0, 0, 0, 0, 0, 0, 0, 0x85, 0x21, 0x2B, 0xB9, 0x97, 0xD8, 0x6E, 0x79],
+        record: &[
+            0x4B, 0x05, 2, 0, 0, 0x11, 0,
+            2, 3, 0, 0, 0, 0, 0, 0, 0, 0x85, 0x21, 0x2B, 0xB9, 0x97, 0xD8, 0x6E, 0x79,
+        ],
+        answer: (0, 17, 0),
+        alters: |host| host.heaps()[512..529].copy_from_slice(&LINK_VALUE),
+    },
+    Step {
+        kind: 11, fields: Fields { identity: 3, length: 17, number: 9, ..NO_FIELDS }, bytes: &[],
+        record: &[
+            0x3D, 0x0B, 3, 0, 0, 0, 0, 0, 0, 0, 0, 0,
+            0x11, 0, 9, 0, 0, 0, 0, 0, 0, 0,
+        ],
+        answer: (0, LINK, 0),
+        alters: |host| {
+            host.held.escrow = Used { rows: 2, bytes: 18 };
+            host.escrow()[1] =
+                EscrowRow { source: 3, recipient: 3, handle: LINK, first: 1, length: 17 };
+            host.escrow_values()[1..18].copy_from_slice(&LINK_VALUE);
+        },
+    },
+    Step {
+        kind: 15, fields: Fields { place: 3, identity: 3, number: LINK, ..NO_FIELDS },
+        bytes: &[1, 0, 1],
+        record: &[
+            0x67, 0x0F, 3, 3, 0, 0, 0, 0, 0, 0, 0,
+            9, 0, 0, 0, 0, 0, 0x11, 0, 3, 0, 1, 0, 1,
+        ],
+        answer: (0, 2, 0),
+        alters: |_| (),
+    },
+    Step {
+        kind: 15, fields: Fields { place: 3, identity: 3, number: LINK, ..NO_FIELDS }, bytes: &[],
+        record: &[
+            0x67, 0x0F, 3, 3, 0, 0, 0, 0, 0, 0, 0,
+            9, 0, 0, 0, 0, 0, 0x11, 0, 0, 0,
+        ],
+        answer: (19, 0, 0),
+        alters: |_| (),
+    },
+    Step {
+        kind: 15, fields: Fields { place: 3, identity: 3, number: LINK, ..NO_FIELDS },
+        bytes: &[1, 0],
+        record: &[
+            0x67, 0x0F, 3, 3, 0, 0, 0, 0, 0, 0, 0,
+            9, 0, 0, 0, 0, 0, 0x11, 0, 2, 0, 1, 0,
+        ],
+        answer: (19, 0, 0),
+        alters: |_| (),
+    },
+    Step {
+        kind: 15, fields: Fields { place: 3, identity: 3, number: LINK, ..NO_FIELDS },
+        bytes: &[1, 0, 1, 0],
+        record: &[
+            0x67, 0x0F, 3, 3, 0, 0, 0, 0, 0, 0, 0,
+            9, 0, 0, 0, 0, 0, 0x11, 0, 4, 0, 1, 0, 1,
+            0,
+        ],
+        answer: (19, 0, 0),
+        alters: |_| (),
+    },
+    Step {
+        kind: 15, fields: Fields { place: 3, number: LINK, ..NO_FIELDS }, bytes: &[1, 0, 1],
+        record: &[
+            0x67, 0x0F, 3, 0, 0, 0, 0, 0, 0, 0, 0,
+            9, 0, 0, 0, 0, 0, 0x11, 0, 3, 0, 1, 0, 1,
+        ],
+        answer: (9, 0, 0),
+        alters: |_| (),
+    },
+    Step {
+        kind: 15, fields: Fields { place: 1, identity: 3, number: LINK, ..NO_FIELDS },
+        bytes: &[1, 0, 1],
+        record: &[
+            0x67, 0x0F, 1, 3, 0, 0, 0, 0, 0, 0, 0,
+            9, 0, 0, 0, 0, 0, 0x11, 0, 3, 0, 1, 0, 1,
+        ],
+        answer: (19, 0, 0),
+        alters: |_| (),
+    },
+    Step {
+        kind: 15, fields: Fields { place: 3, identity: 3, number: OWN, ..NO_FIELDS },
+        bytes: &[1, 0, 1],
+        record: &[
+            0x67, 0x0F, 3, 3, 0, 0, 0, 0, 0, 0, 0,
+            0x0A, 0, 0, 0, 0, 0, 0x11, 0, 3, 0, 1, 0, 1,
+        ],
+        answer: (18, 0, 0),
+        alters: |_| (),
+    },
+    Step {
+        kind: 5, fields: Fields { place: 2, ..NO_FIELDS },
+        bytes: &[3, 3, 0, 0, 0, 0, 0, 0, 0, 0x0A, 0, 0, 0, 0, 0, 0x11, 0],
+        record: &[
+            0x4B, 0x05, 2, 0, 0, 0x11, 0,
+            3, 3, 0, 0, 0, 0, 0, 0, 0, 0x0A, 0, 0, 0, 0, 0, 0x11, 0,
+        ],
+        answer: (0, 17, 0),
+        alters: |host| host.heaps()[512..529].copy_from_slice(&OWN_VALUE),
+    },
+    Step {
+        kind: 11, fields: Fields { identity: 3, length: 17, number: 10, ..NO_FIELDS }, bytes: &[],
+        record: &[
+            0x3D, 0x0B, 3, 0, 0, 0, 0, 0, 0, 0, 0, 0,
+            0x11, 0, 0x0A, 0, 0, 0, 0, 0, 0, 0,
+        ],
+        answer: (0, OWN, 0),
+        alters: |host| {
+            host.held.escrow = Used { rows: 3, bytes: 35 };
+            host.escrow()[2] =
+                EscrowRow { source: 3, recipient: 3, handle: OWN, first: 18, length: 17 };
+            host.escrow_values()[18..35].copy_from_slice(&OWN_VALUE);
+        },
+    },
+    Step {
+        kind: 15, fields: Fields { place: 3, identity: 3, number: OWN, ..NO_FIELDS }, bytes: &[],
+        record: &[
+            0x67, 0x0F, 3, 3, 0, 0, 0, 0, 0, 0, 0,
+            0x0A, 0, 0, 0, 0, 0, 0x11, 0, 0, 0,
+        ],
+        answer: (20, 0, 0),
+        alters: |_| (),
+    },
+    Step {
+        kind: 14, fields: Fields { place: 15, ..NO_FIELDS }, bytes: &[],
+        record: &[0x03, 0x0E, 0x0F], answer: (0, 0, 0),
+        alters: |host| host.held.running = 15,
+    },
+    Step {
+        kind: 15, fields: Fields { place: 3, identity: 3, number: LINK, ..NO_FIELDS },
+        bytes: &[1, 0, 1],
+        record: &[
+            0x67, 0x0F, 3, 3, 0, 0, 0, 0, 0, 0, 0,
+            9, 0, 0, 0, 0, 0, 0x11, 0, 3, 0, 1, 0, 1,
+        ],
+        answer: (18, 0, 0),
+        alters: |_| (),
+    },
+    Step {
+        kind: 15, fields: Fields { place: 2, identity: 3, number: END_TAG, ..NO_FIELDS },
+        bytes: &[1, 0, 1],
+        record: &[
+            0x67, 0x0F, 2, 3, 0, 0, 0, 0, 0, 0, 0,
+            0x85, 0x21, 0x2B, 0xB9, 0x97, 0xD8, 0x6E, 0x79, 3, 0, 1, 0, 1,
+        ],
+        answer: (0, 1, 0),
+        alters: |_| (),
+    },
+    Step {
+        kind: 14, fields: Fields { place: 16, ..NO_FIELDS }, bytes: &[],
+        record: &[0x03, 0x0E, 0x10], answer: (0, 0, 0),
+        alters: |host| host.held.running = 16,
+    },
+];
+
 pub fn check(tally: &mut Tally) {
     let all_zeros = BoxRecord {
         taken: 0,
@@ -223,7 +445,8 @@ pub fn check(tally: &mut Tally) {
     tally.check(fresh() == all_zeros, || "the fresh box".into());
     let mut host = Host::fresh();
     host.output().fill(BEFORE);
-    for (n, step) in EXAMPLE.iter().chain(&OTHER_KINDS).chain(&HAND_OVERS).enumerate() {
+    let steps = EXAMPLE.iter().chain(&OTHER_KINDS).chain(&HAND_OVERS).chain(&CHAINS);
+    for (n, step) in steps.enumerate() {
         written(tally, n, step);
         called(tally, n, step, &mut host);
     }

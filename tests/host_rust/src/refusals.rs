@@ -80,15 +80,19 @@ fn damaged(tally: &mut Tally) {
 fn records(tally: &mut Tally) {
     let mut host = after_example();
     refused(tally, "no kind", &mut host, &[0x02], (2, 0));
-    refused(tally, "kind 15", &mut host, &[0x01, 0x0F], (2, 0));
+    refused(tally, "kind 16", &mut host, &[0x01, 0x10], (2, 0));
+    refused(tally, "kind 16 with a chain's map", &mut host, &[0x67, 0x10, 2], (2, 0));
     refused(tally, "kind 2, retired", &mut host, &[0x03, 0x02, 0], (2, 0));
     refused(tally, "kind 2, retired, cut", &mut host, &[0x03, 0x02], (2, 0));
     refused(tally, "kind 3, retired", &mut host, &[0x01, 0x03], (2, 0));
     refused(tally, "another map", &mut host, &[0x03, 0x0D, 0], (3, 0));
     refused(tally, "hand over with another map", &mut host, &[0x01, 0x0E], (3, 0));
+    refused(tally, "chain with check's map", &mut host, &[0x65, 0x0F, 2], (3, 0));
     refused(tally, "a cut record with another map", &mut host, &[0x4B, 0x07, 0], (3, 0));
     refused(tally, "a cut record of kind 0", &mut host, &[0x07, 0], (2, 0));
     refused(tally, "exit while none runs", &mut host, &[0x01, 0x04, 0xFF], (4, 2));
+    let chain = [&[0x67, 0x0F][..], &[0; 19], &[0xFF]].concat();
+    refused(tally, "chain while none runs", &mut host, &chain, (4, 21));
     refused(tally, "hand over to 17", &mut host, &[0x03, 0x0E, 17], (6, 3));
     refused(tally, "hand over to an empty place", &mut host, &[0x03, 0x0E, 1], (7, 3));
 }
@@ -101,13 +105,15 @@ fn cut_records(tally: &mut Tally) {
     let shared_write = b"\x49\x07\x00\x00\x04\x00abcd";
     let check = b"\x65\x0A\x01\0\0\0\0\0\0\0\x1F\xA2\xF5\x8F\xDC\x6D\x9A\x52\x01\x00A";
     let protect = b"\x3D\x0B\x01\0\0\0\0\0\0\0\x00\x00\x01\x00\x07\0\0\0\0\0\0\0";
-    let records: [(&str, &[u8], &[u64]); 7] = [
+    let chain = b"\x67\x0F\x02\x01\0\0\0\0\0\0\0\x1F\xA2\xF5\x8F\xDC\x6D\x9A\x52\x03\x00\x01\x00A";
+    let records: [(&str, &[u8], &[u64]); 8] = [
         ("create", create, &[1, 1, 1, 8, 7, 6, 5, 4, 3, 2, 1]),
         ("hand over", hand_over, &[1, 1, 1]),
         ("report", REPORT, &[1, 1]),
         ("heap read", heap_read, &[1, 1, 1, 2, 1, 2, 1]),
         ("shared write", shared_write, &[1, 1, 2, 1, 2, 1, 4, 3, 2, 1]),
         ("check", check, &[1, 1, 8, 7, 6, 5, 4, 3, 2, 1, 8, 7, 6, 5, 4, 3, 2, 1, 2, 1, 1]),
+        ("chain", chain, &[1, 1, 1, 8, 7, 6, 5, 4, 3, 2, 1, 8, 7, 6, 5, 4, 3, 2, 1, 2, 1, 3, 2, 1]),
         ("protect", protect, &[1, 1, 8, 7, 6, 5, 4, 3, 2, 1, 2, 1, 2, 1, 8, 7, 6, 5, 4, 3, 2, 1]),
     ];
     for (name, record, missing) in records {
@@ -170,5 +176,7 @@ fn writer(tally: &mut Tally) {
     refused("kind 0", 0, &[], 64, 2);
     refused("kind 2, retired", 2, &[], 64, 2);
     refused("kind 3, retired, in no bytes", 3, &[], 0, 2);
-    refused("kind 15 in no bytes", 15, &[], 0, 2);
+    refused("kind 16 in no bytes", 16, &[], 0, 2);
+    refused("a chain in 20 bytes", 15, &[], 20, 17);
+    refused("a chain with 65,536 bytes", 15, &[1; 65_536], 70_000, 17);
 }

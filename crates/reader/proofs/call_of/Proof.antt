@@ -1,3 +1,4 @@
+use borrow.Author.Needs.{needs}
 use mathlib.Core.Path.{sym}
 use Rattle.reader.specs.Scan.{callOf}
 use Rattle.record.specs.Meaning.{callIn, CallWithin}
@@ -5,6 +6,9 @@ use Rattle.record.specs.Layout.{kinds, among, kindOf}
 use Rattle.reader.proofs.LastKind.{report-last}
 use Rattle.reader.proofs.call_of.Statement.{statement}
 use Rattle.reader.proofs.call_of.Tie as tie
+
+first-link-requires : tie.Need-first-link-requires
+first-link-requires c κs = search needs
 
 returns : tie.Need-returns
 unfolding callIn callOf kindOf among kinds CallWithin
@@ -62,14 +66,21 @@ returns-11 c =
     (λ bs. rw (c .match .keys11), λ bs h. tt)
 
 returns-12 : tie.Need-returns-12
-unfolding callIn kinds CallWithin
+unfolding callIn callOf kindOf among kinds CallWithin
 returns-12 c =
+    let way = c .first-link .ensures .0 in
+    (λ bs. rw (c .before .match .keys12, way .0, way .1), λ bs h. (h, c .first-link .ensures .1))
+
+returns-13 : tie.Need-returns-13
+unfolding callIn kinds CallWithin
+returns-13 c =
     (λ bs. sym (report-last _ _ _ _ (c .match .rest)), λ bs h. tt)
 
 pub call-of-spec : {M : Type 1} → statement M
 call-of-spec =
     tie.close
     (tie.spec
+    first-link-requires
     returns
     returns-2
     returns-3
@@ -81,4 +92,5 @@ call-of-spec =
     returns-9
     returns-10
     returns-11
-    returns-12)
+    returns-12
+    returns-13)

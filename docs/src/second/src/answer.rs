@@ -1,8 +1,9 @@
 //! Answers, and the codes and numbers of the refusals.
 
 /// Why a call, a record, a script or a writing was refused. Each case has its
-/// code in document 01. 5, that one already runs, is retired since hand over
-/// (document 02, P1): no case has it, and the code stays reserved.
+/// code in document 01, those of a chain in document 02, P3. 5, that one already
+/// runs, is retired since hand over (P1): no case has it, and the code stays
+/// reserved.
 #[derive(Clone, Copy, Debug, PartialEq, Eq)]
 pub enum Refusal {
     /// The record ends before a field does, or is empty. So many more bytes
@@ -38,6 +39,13 @@ pub enum Refusal {
     ScriptTooLong,
     /// The writer's buffer is too short, or its bytes are too many.
     CannotWrite,
+    /// The check of a logged link is no, or an escrowed link has no row.
+    NoSuchLink,
+    /// A link's way isn't 2 or 3, its logged value is cut in the chain bytes, its
+    /// head is malformed, or bytes are left over at the end.
+    BadChain,
+    /// A link more, where sixteen have been followed.
+    ChainTooLong,
 }
 
 impl Refusal {
@@ -59,6 +67,9 @@ impl Refusal {
             Refusal::Unsound => 15,
             Refusal::ScriptTooLong => 16,
             Refusal::CannotWrite => 17,
+            Refusal::NoSuchLink => 18,
+            Refusal::BadChain => 19,
+            Refusal::ChainTooLong => 20,
         }
     }
 
@@ -117,10 +128,13 @@ mod tests {
             Unsound => 15,
             ScriptTooLong => 16,
             CannotWrite => 17,
+            NoSuchLink => 18,
+            BadChain => 19,
+            ChainTooLong => 20,
         }
     }
 
-    const REFUSALS: [Refusal; 16] = [
+    const REFUSALS: [Refusal; 19] = [
         Cut { missing: 7 },
         UnknownKind,
         WrongMap,
@@ -137,12 +151,15 @@ mod tests {
         Unsound,
         ScriptTooLong,
         CannotWrite,
+        NoSuchLink,
+        BadChain,
+        ChainTooLong,
     ];
 
     /// The codes as the documents give them; 5 is not among them.
     #[test]
     fn codes() {
-        let codes = (1..=17).filter(|&code| code != 5);
+        let codes = (1..=20).filter(|&code| code != 5);
         assert!(REFUSALS.iter().map(|refusal| refusal.code()).eq(codes));
         assert!(REFUSALS.iter().all(|&refusal| refusal.code() == documented(refusal)));
     }

@@ -1,9 +1,10 @@
-//! The twelve calls on a sound box. Each tests its refusals in rising order
-//! before it alters anything.
+//! The thirteen calls on a sound box. Each tests its refusals in rising order
+//! before it alters anything; a chain has an order of its own, link by link.
 
 use std::ops::Range;
 
 use crate::answer::{Answer, Refusal};
+use crate::chain::{head_of, take_value, Head, Link, LINKS_MAX, WAY_ESCROWED, WAY_LOGGED};
 use crate::record::{read, Call};
 use crate::sound::is_sound;
 use crate::tables::{
@@ -93,6 +94,7 @@ impl<'a> SoundBox<'a> {
             }
             Call::Report => Ok(self.report()),
             Call::HandOver { place } => self.hand_over(place).map(|()| 0),
+            Call::Chain { first, bytes } => self.chain(first, bytes),
         };
         let number = match result {
             Ok(number) => number,
@@ -239,12 +241,7 @@ impl<'a> SoundBox<'a> {
         let place = self.running()?;
         non_zero(identity)?;
         let recipient = self.record.identities[place];
-        let row = *self.escrow[..usize::from(self.record.escrow_rows)]
-            .iter()
-            .find(|row| {
-                row.handle == handle && row.source == identity && row.recipient == recipient
-            })
-            .ok_or(Refusal::NoSuchRow)?;
+        let row = *self.escrow_row(handle, identity, recipient).ok_or(Refusal::NoSuchRow)?;
         let part = part(offset, usize::from(row.length), HEAP_SIZE)?;
         let value = row.value(self.escrow_values);
         heap_of_mut(self.heaps, place)[part].copy_from_slice(value);
@@ -266,6 +263,76 @@ impl<'a> SoundBox<'a> {
         }
         self.record.running = place;
         Ok(())
+    }
+
+    /// 15: follows a chain of custody from its first link on; the count of links.
+    /// The chain bytes hold the logged values in order, and none may be left over.
+    /// A link that comes again counts again.
+    ///
+    /// Open: document 02 doesn't say whether a first way of 1 is a chain of no links.
+    /// Here it isn't 2 or 3, so it is 19.
+    pub fn chain(&self, first: Link, bytes: &[u8]) -> Result<u64, Refusal> {
+        let recipient = self.record.identities[self.running()?];
+        let mut rest = bytes;
+        let mut link = first;
+        let mut count = 0;
+        loop {
+            if count == LINKS_MAX {
+                return Err(Refusal::ChainTooLong);
+            }
+            let value = match link.way {
+                WAY_LOGGED => self.logged_link(link.identity, Tag(link.number), &mut rest)?,
+                WAY_ESCROWED => {
+                    self.escrowed_link(link.identity, Handle(link.number), recipient)?
+                }
+                _ => return Err(Refusal::BadChain),
+            };
+            count += 1;
+            match head_of(value).ok_or(Refusal::BadChain)? {
+                Head::Next(next) => link = next,
+                Head::End if rest.is_empty() => return Ok(count),
+                Head::End => return Err(Refusal::BadChain),
+            }
+        }
+    }
+
+    /// A logged link's value, the next of the chain bytes, or refusal 19 (it is
+    /// cut there), 9 or 18.
+    fn logged_link<'v>(
+        &self,
+        identity: Identity,
+        tag: Tag,
+        rest: &mut &'v [u8],
+    ) -> Result<&'v [u8], Refusal> {
+        let value = take_value(rest).ok_or(Refusal::BadChain)?;
+        if !self.check(identity, value, tag)? {
+            return Err(Refusal::NoSuchLink);
+        }
+        Ok(value)
+    }
+
+    /// An escrowed link's value, or refusal 9 or 18.
+    fn escrowed_link(
+        &self,
+        source: Identity,
+        handle: Handle,
+        recipient: Identity,
+    ) -> Result<&[u8], Refusal> {
+        non_zero(source)?;
+        let row = self.escrow_row(handle, source, recipient).ok_or(Refusal::NoSuchLink)?;
+        Ok(row.value(self.escrow_values))
+    }
+
+    /// The escrow row with all three, if there is one.
+    fn escrow_row(
+        &self,
+        handle: Handle,
+        source: Identity,
+        recipient: Identity,
+    ) -> Option<&EscrowRow> {
+        self.escrow[..usize::from(self.record.escrow_rows)]
+            .iter()
+            .find(|row| row.handle == handle && row.source == source && row.recipient == recipient)
     }
 
     /// The running place, or refusal 4.

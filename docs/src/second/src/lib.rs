@@ -1,11 +1,12 @@
-//! The box of document 01, amended by requests P1 and P2 of document 02: places
-//! with heaps, shared memory, a log and an escrow, worked by twelve calls. A
+//! The box of document 01, amended by requests P1 to P3 of document 02: places
+//! with heaps, shared memory, a log and an escrow, worked by thirteen calls. A
 //! second program, written from those documents alone.
 
 #![forbid(unsafe_code)]
 
 mod answer;
 mod calls;
+mod chain;
 mod record;
 mod sheet;
 mod sound;
@@ -14,6 +15,7 @@ mod tags;
 
 pub use answer::{Answer, Refusal};
 pub use calls::{call, SoundBox};
+pub use chain::{Link, LINKS_MAX, WAY_END, WAY_ESCROWED, WAY_LOGGED};
 pub use record::{read, write, write_call, Call, Fields, Kind, Written};
 pub use sheet::{sheet, HEADER, SCRIPT_MAX};
 pub use sound::{has_its_sizes, is_sound};

@@ -1,6 +1,7 @@
 //! Call records: the reader and the writer.
 
 use crate::answer::Refusal;
+use crate::chain::Link;
 use crate::tables::{Identity, Place};
 use crate::tags::{Draw, Handle, Tag};
 
@@ -13,7 +14,7 @@ const LENGTH: u8 = 1 << 4;
 const NUMBER: u8 = 1 << 5;
 const BYTES: u8 = 1 << 6;
 
-/// The twelve kinds of call. The value of each case is its number. 2 and 3,
+/// The thirteen kinds of call. The value of each case is its number. 2 and 3,
 /// start and yield, are retired: hand over took their place (document 02, P1),
 /// and the numbers stay reserved.
 #[derive(Clone, Copy, Debug, PartialEq, Eq)]
@@ -31,6 +32,7 @@ pub enum Kind {
     Retrieve = 12,
     Report = 13,
     HandOver = 14,
+    Chain = 15,
 }
 
 impl Kind {
@@ -49,7 +51,8 @@ impl Kind {
             12 => Kind::Retrieve,
             13 => Kind::Report,
             14 => Kind::HandOver,
-            0 | 2..=3 | 15..=255 => return Err(Refusal::UnknownKind),
+            15 => Kind::Chain,
+            0 | 2..=3 | 16..=255 => return Err(Refusal::UnknownKind),
         })
     }
 
@@ -70,6 +73,7 @@ impl Kind {
             Kind::Protect => 0x3D,
             Kind::Retrieve => 0x2D,
             Kind::HandOver => 0x03,
+            Kind::Chain => 0x67,
         }
     }
 }
@@ -100,6 +104,7 @@ pub enum Call<'a> {
     Retrieve { identity: Identity, offset: u16, handle: Handle },
     Report,
     HandOver { place: Place },
+    Chain { first: Link, bytes: &'a [u8] },
 }
 
 impl<'a> Call<'a> {
@@ -119,6 +124,7 @@ impl<'a> Call<'a> {
             Kind::Retrieve => Call::Retrieve { identity, offset, handle: Handle(number) },
             Kind::Report => Call::Report,
             Kind::HandOver => Call::HandOver { place },
+            Kind::Chain => Call::Chain { first: Link { way: place, identity, number }, bytes },
         }
     }
 
@@ -184,6 +190,13 @@ impl<'a> Call<'a> {
             Call::HandOver { place } => {
                 fields.place = place;
                 Kind::HandOver
+            }
+            Call::Chain { first, bytes } => {
+                fields.place = first.way;
+                fields.identity = first.identity;
+                fields.number = first.number;
+                call_bytes = bytes;
+                Kind::Chain
             }
         };
         (kind, fields, call_bytes)
@@ -335,7 +348,7 @@ mod tests {
     use super::*;
 
     /// The numbers of the kinds, each with its one legal map.
-    const MAPS: [(u8, u8); 12] = [
+    const MAPS: [(u8, u8); 13] = [
         (1, 0x07),
         (4, 0x01),
         (5, 0x4B),
@@ -348,6 +361,7 @@ mod tests {
         (12, 0x2D),
         (13, 0x01),
         (14, 0x03),
+        (15, 0x67),
     ];
 
     fn legal_map(kind: u8) -> Option<u8> {
@@ -355,7 +369,7 @@ mod tests {
     }
 
     /// One call of each kind, every field byte different.
-    fn samples() -> [Call<'static>; 12] {
+    fn samples() -> [Call<'static>; 13] {
         let (place, identity) = (0x11, 0x2928_2726_2524_2322);
         let (offset, length) = (0x3332, 0x4544);
         let number = 0x5958_5756_5554_5352;
@@ -373,11 +387,12 @@ mod tests {
             Call::Retrieve { identity, offset, handle: Handle(number) },
             Call::Report,
             Call::HandOver { place },
+            Call::Chain { first: Link { way: place, identity, number }, bytes },
         ]
     }
 
     /// The samples' records, written out by hand.
-    const RECORDS: [&[u8]; 12] = [
+    const RECORDS: [&[u8]; 13] = [
         b"\x07\x01\x11\x22\x23\x24\x25\x26\x27\x28\x29",
         b"\x01\x04",
         b"\x4B\x05\x11\x32\x33\x03\x00abc",
@@ -390,12 +405,13 @@ mod tests {
         b"\x2D\x0C\x22\x23\x24\x25\x26\x27\x28\x29\x32\x33\x52\x53\x54\x55\x56\x57\x58\x59",
         b"\x01\x0D",
         b"\x03\x0E\x11",
+        b"\x67\x0F\x11\x22\x23\x24\x25\x26\x27\x28\x29\x52\x53\x54\x55\x56\x57\x58\x59\x03\x00abc",
     ];
 
     /// The widths of the samples' fields, from the document's table: map 1, kind
     /// 1, place 1, identity 8, offset 2, length 2, number 8, the count of the
     /// bytes 2, their contents 3.
-    const WIDTHS: [&[usize]; 12] = [
+    const WIDTHS: [&[usize]; 13] = [
         &[1, 1, 1, 8],
         &[1, 1],
         &[1, 1, 1, 2, 2, 3],
@@ -408,11 +424,12 @@ mod tests {
         &[1, 1, 8, 2, 8],
         &[1, 1],
         &[1, 1, 1],
+        &[1, 1, 1, 8, 8, 2, 3],
     ];
 
     /// What each sample misses when it is cut, from no byte of it on: a word for
     /// a field, a digit for a byte.
-    const MISSING: [&str; 12] = [
+    const MISSING: [&str; 13] = [
         "1 1 1 87654321",
         "1 1",
         "1 1 1 21 21 321",
@@ -425,6 +442,7 @@ mod tests {
         "1 1 87654321 21 87654321",
         "1 1",
         "1 1 1",
+        "1 1 1 87654321 87654321 21 321",
     ];
 
     fn widths_of(kind: u8) -> Option<&'static [usize]> {
@@ -474,10 +492,11 @@ mod tests {
     /// Contents cut at every byte. A count of 0 leaves nothing to cut.
     #[test]
     fn contents_cut_at_every_byte() {
-        let fronts: [&[u8]; 3] = [&[0x4B, 5, 0, 0, 0], &[0x49, 7, 0, 0], &[0x65, 10]];
+        let fronts: [&[u8]; 4] =
+            [&[0x4B, 5, 0, 0, 0], &[0x49, 7, 0, 0], &[0x65, 10], &[0x67, 15, 2]];
         for front in fronts {
             let mut front = front.to_vec();
-            if front[1] == 10 {
+            if matches!(front[1], 10 | 15) {
                 front.extend([0; 16]);
             }
             for count in [0u16, 1, 2, 3, 8, 255, 256, 257, 300, 65_280, 65_535] {
@@ -665,7 +684,7 @@ mod tests {
     fn longest_records() {
         let bytes = vec![1; 65_535];
         let mut buffer = vec![0; 70_000];
-        for (kind, length) in [(5, 65_542), (7, 65_541), (10, 65_555)] {
+        for (kind, length) in [(5, 65_542), (7, 65_541), (10, 65_555), (15, 65_556)] {
             let written = write(kind, &Fields::default(), &bytes, &mut buffer);
             assert_eq!(written, Written { code: 0, length });
             assert_eq!(read(&buffer[..length]).unwrap().1, length);

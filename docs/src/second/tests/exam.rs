@@ -1,6 +1,6 @@
 //! Document 01's exam cases, traps, boundaries and order of refusals, the hand
-//! overs of document 02's P1 and the missing bytes of its P2, through the
-//! library's own doors.
+//! overs of document 02's P1, the missing bytes of its P2 and the chains of its
+//! P3, through the library's own doors.
 
 use second::*;
 
@@ -15,8 +15,8 @@ fn record_of(call: &Call) -> Vec<u8> {
 }
 
 /// A host with its output buffer, which tests at each call what holds of all:
-/// the box stays sound, a refusal alters nothing, 1 is the only refusal with a
-/// number other than 0 and never has 0, only reads touch the output.
+/// the box stays sound, a refusal and a chain alter nothing, 1 is the only refusal
+/// with a number other than 0 and never has 0, only reads touch the output.
 struct Bench {
     host: Host,
     output: Vec<u8>,
@@ -45,6 +45,8 @@ impl Bench {
         assert!(self.output[answer.shown..] == output[answer.shown..]);
         if answer.code != 0 {
             assert_eq!((answer.number != 0, answer.shown), (answer.code == 1, 0));
+        }
+        if answer.code != 0 || record[1] == 15 {
             assert!(self.host == host);
         }
         answer
@@ -409,6 +411,217 @@ fn a_refused_hand_over_leaves_the_old_service_running() {
     }
 }
 
+// Chains.
+
+/// What a value names: none where the chain ends.
+fn link_value(next: Option<Link>) -> Vec<u8> {
+    let mut value = vec![1];
+    if let Some(Link { way, identity, number }) = next {
+        value = vec![way];
+        value.extend(identity.to_le_bytes());
+        value.extend(number.to_le_bytes());
+    }
+    value
+}
+
+fn counted(value: &[u8]) -> Vec<u8> {
+    [&(value.len() as u16).to_le_bytes(), value].concat()
+}
+
+impl Bench {
+    /// Logs the value, or escrows it for identity 1, and gives where it is.
+    fn put_link(&mut self, way: u8, value: &[u8]) -> Link {
+        let identity = self.host.record.identities[usize::from(self.host.record.running)];
+        let length = value.len() as u16;
+        self.put(0, value);
+        let number = match way {
+            WAY_LOGGED => self.accept(Call::Attest { offset: 0, length }),
+            _ => self.protect(1, 0, length, 7),
+        };
+        Link { way, identity, number }
+    }
+
+    /// A chain of so many links by these ways in turn, put from its end on: its
+    /// first link, and the bytes that it wants.
+    fn put_chain(&mut self, ways: &[u8], links: usize) -> (Link, Vec<u8>) {
+        let (mut first, mut bytes) = (None, Vec::new());
+        for n in (0..links).rev() {
+            let way = ways[n % ways.len()];
+            let value = link_value(first);
+            if way == WAY_LOGGED {
+                bytes = [counted(&value), bytes].concat();
+            }
+            first = Some(self.put_link(way, &value));
+        }
+        (first.unwrap(), bytes)
+    }
+
+    fn chain(&mut self, code: u8, first: Link, bytes: &[u8]) {
+        self.refuse(code, Call::Chain { first, bytes });
+    }
+}
+
+/// The ways of a chain's links, in turn.
+const PATTERNS: [&[u8]; 5] = [&[2], &[3], &[2, 3], &[3, 2], &[2, 2, 3]];
+
+#[test]
+fn chains_of_up_to_sixteen_links() {
+    for ways in PATTERNS {
+        for links in 1..=18 {
+            let mut bench = Bench::busy();
+            let (first, bytes) = bench.put_chain(ways, links);
+            let call = Call::Chain { first, bytes: &bytes };
+            match links {
+                1..=16 => assert_eq!(bench.accept(call), links as u64),
+                _ => bench.refuse(20, call),
+            }
+            // Another than the recipient gets as far as links are logged.
+            bench.switch(1);
+            let followed = links.min(16);
+            let escrowed = (0..followed).any(|link| ways[link % ways.len()] == WAY_ESCROWED);
+            match links {
+                _ if escrowed => bench.refuse(18, call),
+                1..=16 => assert_eq!(bench.accept(call), links as u64),
+                _ => bench.refuse(20, call),
+            }
+            bench.switch(NONE_RUNS);
+            bench.refuse(4, call);
+        }
+    }
+}
+
+/// 20, 19 by the way or a cut value, 9, 18, 19 by the head, in this order, at the
+/// first link and at every later one.
+#[test]
+fn order_at_each_link() {
+    let heads: [&[u8]; 6] = [&[], &[0], &[4], &[255], &[2; 16], &[3; 16]];
+    for way in [WAY_LOGGED, WAY_ESCROWED] {
+        for before in 0..=16 {
+            for faults in 0..16 {
+                let [cut, zero, unknown, malformed] = [1, 2, 4, 8].map(|bit| faults & bit != 0);
+                let cut = cut && way == WAY_LOGGED;
+                let mut bench = Bench::busy();
+                let value = if malformed { heads[before % heads.len()] } else { &[1] };
+                let mut first = bench.put_link(way, value);
+                let mut bytes = if way == WAY_LOGGED { counted(value) } else { Vec::new() };
+                bytes.truncate(if cut { before % 2 } else { bytes.len() });
+                first.identity *= u64::from(!zero);
+                first.number ^= u64::from(unknown);
+                for n in 0..before {
+                    let value = link_value(Some(first));
+                    first = bench.put_link(2 + (n % 2) as u8, &value);
+                    if first.way == WAY_LOGGED {
+                        bytes = [counted(&value), bytes].concat();
+                    }
+                }
+                let numbers = [(20, before == 16), (19, cut), (9, zero), (18, unknown)];
+                let code = numbers.iter().find(|(_, holds)| *holds).map(|(number, _)| *number);
+                let code = code.unwrap_or(if malformed { 19 } else { 0 });
+                let answer = bench.go(Call::Chain { first, bytes: &bytes });
+                let number = if code == 0 { before as u64 + 1 } else { 0 };
+                assert_eq!((answer.code, answer.number), (code, number), "{way} {before} {faults}");
+                // None runs: 4 comes before all of these.
+                bench.switch(NONE_RUNS);
+                bench.chain(4, first, &bytes);
+            }
+        }
+    }
+}
+
+#[test]
+fn first_way_of_every_byte() {
+    let mut bench = Bench::busy();
+    let logged = bench.put_link(WAY_LOGGED, &[1]);
+    let escrowed = bench.put_link(WAY_ESCROWED, &[1]);
+    for way in (0..=255).filter(|way| ![2, 3].contains(way)) {
+        for link in [logged, escrowed, Link { identity: 0, ..logged }] {
+            bench.chain(19, Link { way, ..link }, b"\x01\x00\x01");
+            bench.chain(19, Link { way, ..link }, b"");
+        }
+    }
+    bench.chain(0, logged, b"\x01\x00\x01");
+    bench.chain(0, escrowed, b"");
+    // Bytes left over, and cut, are 19 as well.
+    bench.chain(19, escrowed, b"\x01\x00\x01");
+    bench.chain(19, logged, b"\x01\x00\x01\x00");
+    bench.chain(19, logged, b"\x01\x00");
+    bench.chain(19, logged, b"\x01");
+    bench.chain(19, logged, b"");
+    // The numbers are of different tables.
+    bench.chain(18, Link { way: WAY_ESCROWED, ..logged }, b"");
+    bench.chain(18, Link { way: WAY_LOGGED, ..escrowed }, b"\x01\x00\x01");
+}
+
+/// A right tag is not enough: the value has to be logged by that identity.
+#[test]
+fn a_logged_link_is_checked() {
+    let mut bench = Bench::busy();
+    let value = [1, 7, 7];
+    let link = Link { way: WAY_LOGGED, identity: 1, number: tag_of(1, &value).0 };
+    bench.chain(18, link, &counted(&value));
+    bench.put(0, &value);
+    bench.chain(18, link, &counted(&value));
+    bench.accept(Call::Attest { offset: 0, length: 3 });
+    bench.chain(0, link, &counted(&value));
+    bench.chain(18, Link { number: link.number ^ 1, ..link }, &counted(&value));
+    bench.chain(18, Link { identity: 2, ..link }, &counted(&value));
+    bench.chain(18, Link { identity: 2, number: tag_of(2, &value).0, ..link }, &counted(&value));
+    bench.chain(18, link, &counted(&[1, 7]));
+    // More than 256 bytes are never logged.
+    let long = [1; 300];
+    bench.put(0, &long[..256]);
+    let number = bench.accept(Call::Attest { offset: 0, length: 256 });
+    let link = Link { number, ..link };
+    bench.chain(0, link, &counted(&long[..256]));
+    for count in [255, 257, 300] {
+        bench.chain(18, link, &counted(&long[..count]));
+        let number = tag_of(1, &long[..count]).0;
+        bench.chain(18, Link { number, ..link }, &counted(&long[..count]));
+    }
+}
+
+/// By source, handle and recipient.
+#[test]
+fn an_escrowed_link_is_looked_up() {
+    let mut bench = Bench::busy();
+    bench.put(0, &[1]);
+    let number = bench.protect(2, 0, 1, 7);
+    let link = Link { way: WAY_ESCROWED, identity: 1, number };
+    bench.chain(18, link, b"");
+    bench.switch(2);
+    bench.chain(18, link, b"");
+    bench.switch(1);
+    bench.chain(0, link, b"");
+    bench.chain(18, Link { identity: 2, ..link }, b"");
+    bench.chain(18, Link { number: number + 1, ..link }, b"");
+    bench.chain(18, Link { number: number + DRAW_LIMIT, ..link }, b"");
+    // A second place of the recipient's identity is the same principal.
+    bench.accept(Call::Create { place: 8, identity: 2 });
+    bench.switch(8);
+    bench.chain(0, link, b"");
+}
+
+/// A handle can be told ahead, so a chain can come back on itself.
+#[test]
+fn rings_run_to_20() {
+    let mut bench = Bench::busy();
+    let own = Link { way: WAY_ESCROWED, identity: 1, number: 17 * DRAW_LIMIT + 7 };
+    assert_eq!(bench.put_link(WAY_ESCROWED, &link_value(Some(own))), own);
+    bench.chain(20, own, b"");
+    bench.chain(20, own, b"left over");
+    // A logged and an escrowed value that name each other.
+    let escrowed = Link { number: own.number + 1, ..own };
+    let value = link_value(Some(escrowed));
+    let logged = bench.put_link(WAY_LOGGED, &value);
+    assert_eq!(bench.put_link(WAY_ESCROWED, &link_value(Some(logged))), escrowed);
+    for turns in 0..10 {
+        let bytes = counted(&value).repeat(turns);
+        let code = if turns < 8 { 19 } else { 20 };
+        bench.chain(code, logged, &bytes);
+        bench.chain(code, escrowed, &bytes);
+    }
+}
+
 // Boundaries.
 
 #[test]
@@ -655,7 +868,8 @@ fn order_in_attest_protect_retrieve() {
 #[test]
 fn order_of_15_and_the_record() {
     let unsound = Answer { code: 15, ..Answer::default() };
-    let records: [&[u8]; 7] = [&[], &[2], &[1], &[1, 15], &[3, 2, 0], &[1, 14], &[7, 1, 0, 1]];
+    let records: [&[u8]; 8] =
+        [&[], &[2], &[1], &[1, 16], &[3, 2, 0], &[1, 14], &[0x67, 15], &[7, 1, 0, 1]];
     for record in records {
         let mut host = Host::fresh();
         assert_eq!(host.call(&mut [0; 1_023], record), unsound);
@@ -669,12 +883,13 @@ fn order_of_15_and_the_record() {
 #[test]
 fn order_in_the_record() {
     let mut bench = Bench::fresh();
-    let cases: [(u8, u64, &[u8]); 19] = [
+    let cases: [(u8, u64, &[u8]); 25] = [
         (1, 1, &[]),
         (2, 0, &[0x00]),
         (2, 0, &[0x06, 1]),
         (1, 1, &[0xFF]),
-        (2, 0, &[0xFF, 15]),
+        (2, 0, &[0xFF, 16]),
+        (2, 0, &[0x67, 16, 2]),
         (2, 0, &[0xFF, 0]),
         (2, 0, &[0x03, 2]),
         (2, 0, &[0x03, 2, 0]),
@@ -683,12 +898,17 @@ fn order_in_the_record() {
         (3, 0, &[0xFF, 1]),
         (3, 0, &[0xFF, 14]),
         (3, 0, &[0x01, 14]),
+        (3, 0, &[0x65, 15]),
+        (3, 0, &[0xE7, 15]),
         (3, 0, &[0x81, 4]),
         (1, 1, &[0x07, 1]),
         (1, 8, &[0x07, 1, 16]),
         (1, 1, &[0x03, 14]),
+        (1, 1, &[0x67, 15]),
+        (1, 2, &[0x67, 15, 2, 1, 0, 0, 0, 0, 0, 0, 0, 0, 0, 0, 0, 0, 0, 0, 0]),
         (1, 1, &[0x4B, 5, 16, 0, 0, 1, 0]),
         (4, 0, &[0x4B, 5, 16, 0, 0, 1, 0, 9]),
+        (4, 0, &[0x67, 15, 0, 0, 0, 0, 0, 0, 0, 0, 0, 0, 0, 0, 0, 0, 0, 0, 0, 1, 0, 9]),
     ];
     for (code, number, record) in cases {
         let answer = bench.raw(record);
@@ -789,12 +1009,13 @@ code number used bytes
 #[test]
 fn sheet_stops_after_1_2_and_3() {
     assert_eq!(sheet(&[]), HEADER);
-    let cases: [(&[u8], &str); 11] = [
+    let cases: [(&[u8], &str); 12] = [
         (&[1, 13, 1], "0 0 2 -\n1 1 0 -\n"),
         (&[1, 13, 0x19, 8, 0, 0], "0 0 2 -\n1 2 0 -\n"),
         (&[1, 13, 0x49, 7, 0, 0, 0, 1], "0 0 2 -\n1 256 0 -\n"),
         (&[1, 13, 2, 1, 13], "0 0 2 -\n2 0 0 -\n"),
-        (&[1, 13, 1, 15, 1, 13], "0 0 2 -\n2 0 0 -\n"),
+        (&[1, 13, 1, 16, 1, 13], "0 0 2 -\n2 0 0 -\n"),
+        (&[1, 13, 1, 15, 1, 13], "0 0 2 -\n3 0 0 -\n"),
         (&[1, 13, 3, 2, 0, 1, 13], "0 0 2 -\n2 0 0 -\n"),
         (&[1, 13, 1, 3, 1, 13], "0 0 2 -\n2 0 0 -\n"),
         (&[1, 13, 3, 13, 1, 13], "0 0 2 -\n3 0 0 -\n"),
@@ -860,7 +1081,7 @@ impl Random {
         let kind = match self.below(24) {
             0 => [4, 14][self.below(2) as usize],
             1..=3 => 14,
-            n => [1, 5, 5, 5, 6, 7, 8, 9, 9, 9, 9, 10, 10, 11, 11, 11, 12, 12, 12, 13]
+            n => [1, 5, 5, 5, 6, 7, 8, 9, 9, 9, 9, 10, 15, 11, 11, 11, 12, 12, 15, 13]
                 [n as usize - 4],
         };
         let number = match self.below(8) {
@@ -890,7 +1111,7 @@ impl Random {
 #[test]
 fn random_scripts() {
     let mut random = Random(0x9E37_79B9_7F4A_7C15);
-    let mut codes = [0; 18];
+    let mut codes = [0; 21];
     for _ in 0..20 {
         let mut bench = Bench::fresh();
         let mut script = Vec::new();
@@ -923,6 +1144,8 @@ fn random_scripts() {
         }
         assert_eq!(sheet_text(&script), expected);
     }
-    // Every refusal a record can meet in a sound box was met. 5 is retired.
-    assert!((0..18).all(|code| (codes[code] > 0) == (code <= 14 && code != 5)), "{codes:?}");
+    // Every refusal a record can meet in a sound box was met, but for 20: chains are
+    // short here. 5 is retired.
+    let never = [5, 15, 16, 17, 20];
+    assert!((0..21).all(|code| (codes[code] > 0) != never.contains(&code)), "{codes:?}");
 }

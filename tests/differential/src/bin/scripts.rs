@@ -14,13 +14,17 @@ use std::io::{self, ErrorKind, Write};
 use std::process::{Command, ExitCode, Stdio};
 use std::{env, thread};
 
-use differential::{cases, lines, play, Case, HandOvers, Missing};
+use differential::{cases, lines, play, Case, Chains, HandOvers, Missing};
 use second::{sheet, ROWS, VALUES_SIZE};
 
 const COUNT: u64 = 2_400;
 
 /// More hand overs of each sort than this are in the generated scripts.
 const HAND_OVERS: u64 = 100;
+
+/// More chains of each sort than this are in the fixed cases, and in the
+/// generated scripts.
+const CHAINS: u64 = 20;
 
 /// More cut records that miss 1 to 8 bytes, of each sort, and that miss more are
 /// in the fixed cases, and in the generated scripts.
@@ -50,6 +54,7 @@ fn main() -> ExitCode {
         marker.compare(&program, &case);
     }
     marker.cut_coverage();
+    marker.chain_coverage();
     let mut generated = Generated::default();
     for seed in first..first.saturating_add(count) {
         generated.compare(&mut marker, &program, seed);
@@ -67,7 +72,7 @@ fn number(argument: OsString) -> Option<u64> {
 
 /// The kinds and the refusals that documents 01 and 02 give to each. The
 /// reader's come before a kind is known.
-const REFUSALS: [(usize, &[usize]); 12] = [
+const REFUSALS: [(usize, &[usize]); 13] = [
     (1, &[6, 7, 9]),
     (4, &[4]),
     (5, &[4, 6, 8, 11]),
@@ -80,7 +85,11 @@ const REFUSALS: [(usize, &[usize]); 12] = [
     (12, &[4, 9, 10, 11]),
     (13, &[]),
     (14, &[6, 7]),
+    (15, &[4, 9, 18, 19, 20]),
 ];
+
+/// The codes are below this.
+const CODES: usize = 21;
 
 /// Codes that no sheet shows: 5 is retired, the two others are the host's.
 const NEVER: [usize; 3] = [5, 15, 17];
@@ -91,13 +100,16 @@ struct Marker {
     passed: u64,
     failed: u64,
     /// Lines with each code.
-    codes: [u64; 18],
+    codes: [u64; CODES],
     /// Lines with 1, by what the record misses.
     missing: Missing,
     /// Those of `MISSED` that were met.
     missed: [bool; MISSED.len()],
     /// Lines with each code above 3, and accepted ones, for each kind byte.
-    kinds: [[u64; 18]; 15],
+    kinds: [[u64; CODES]; 16],
+    /// Chains, and whether each answer follows from what the sheet tells.
+    chains: Chains,
+    chains_wrong: u64,
 }
 
 impl Marker {
@@ -119,6 +131,7 @@ impl Marker {
     fn compare(&mut self, program: &OsStr, case: &Case) -> Vec<u8> {
         let expected = sheet(&case.script);
         self.count_lines(&case.script, &expected);
+        self.chains_wrong += u64::from(!self.chains.count(&case.script, &expected));
         let by_hand = match &case.sheet {
             Some(by_hand) => same(by_hand.as_bytes(), &expected, "written by hand"),
             None => Ok(()),
@@ -154,7 +167,7 @@ impl Marker {
         for (code, lines) in self.codes.iter().enumerate() {
             println!("{code:7} {lines}");
         }
-        for code in (0..=17).filter(|code| !NEVER.contains(code)) {
+        for code in (0..CODES).filter(|code| !NEVER.contains(code)) {
             let met = self.codes[code] > 0;
             self.check(&format!("lines with {code}"), met.then_some(()).ok_or("none".into()));
         }
@@ -165,13 +178,16 @@ impl Marker {
         let right = self.missing.only_with_one();
         let outcome = right.then_some(()).ok_or("another number".into());
         self.check("1 is the only refusal with a number, and never has 0", outcome);
+        let right = self.chains_wrong == 0;
+        let outcome = right.then_some(()).ok_or(format!("{} scripts", self.chains_wrong));
+        self.check("each chain's answer follows from what the sheet tells", outcome);
         for kind in [0, 2, 3] {
             let read = self.kinds[kind].iter().any(|&lines| lines > 0);
             let outcome = (!read).then_some(()).ok_or("some".into());
             self.check(&format!("no record of kind {kind} read"), outcome);
         }
         for (kind, refusals) in REFUSALS {
-            let met: Vec<usize> = (1..18).filter(|&code| self.kinds[kind][code] > 0).collect();
+            let met: Vec<usize> = (1..CODES).filter(|&code| self.kinds[kind][code] > 0).collect();
             let all = met == refusals && self.kinds[kind][0] > 0;
             let outcome = if all { Ok(()) } else { Err(format!("met {met:?}")) };
             self.check(&format!("kind {kind}'s refusals {refusals:?}"), outcome);
@@ -190,6 +206,14 @@ impl Marker {
         }
     }
 
+    /// Chains of each sort. Before anything is generated.
+    fn chain_coverage(&mut self) {
+        println!("in fixed scripts, {}", self.chains);
+        let often = self.chains.each_above(CHAINS);
+        let outcome = often.then_some(()).ok_or(format!("not all above {CHAINS}"));
+        self.check("chains of each sort in fixed scripts", outcome);
+    }
+
     fn summary(&self) -> ExitCode {
         if self.failed > PRINTED {
             println!("{} more failed", self.failed - PRINTED);
@@ -204,6 +228,7 @@ impl Marker {
 struct Generated {
     full: Full,
     hand_overs: HandOvers,
+    chains: Chains,
     missing: Missing,
     /// Hand overs refused and followed by a call of the service that runs.
     left_running: u64,
@@ -217,12 +242,14 @@ impl Generated {
         let case = Case::bare(format!("generated script, seed {seed}"), played.script);
         let sheet = marker.compare(program, &case);
         self.left_running += self.hand_overs.count(&case.script, &sheet);
+        self.chains.count(&case.script, &sheet);
         lines(&case.script, &sheet).for_each(|line| self.missing.add(line.code, line.number));
     }
 
-    /// Tables were filled, hand overs of each sort came often, and cut records.
+    /// Tables were filled; hand overs, chains and cut records of each sort came
+    /// often.
     fn coverage(&self, marker: &mut Marker) {
-        let Generated { full, hand_overs, missing, left_running } = self;
+        let Generated { full, hand_overs, chains, missing, left_running } = self;
         marker.check("generated scripts that fill the tables", full.everywhere());
         println!("{full}");
         let often = hand_overs.each_above(HAND_OVERS) && *left_running > HAND_OVERS;
@@ -230,6 +257,10 @@ impl Generated {
         marker.check("hand overs of each sort in generated scripts", outcome);
         println!("in generated scripts, {hand_overs}");
         println!("refused and followed by a call of who runs: {left_running}");
+        let often = chains.each_above(CHAINS);
+        let outcome = often.then_some(()).ok_or(format!("not all above {CHAINS}"));
+        marker.check("chains of each sort in generated scripts", outcome);
+        println!("in generated scripts, {chains}");
         let often = missing.each_above(CUT_GENERATED);
         let outcome = often.then_some(()).ok_or(format!("not all above {CUT_GENERATED}"));
         marker.check("cut records of each sort in generated scripts", outcome);

@@ -46,7 +46,7 @@ const OTHER_RUNS: (&str, &str) = ("1B 06 00 0000 0200", "8 0 7 -");
 
 /// Records in hexadecimal, each with its line. One after the sheet's end has
 /// none.
-fn written(name: &str, records: &[(&str, &str)]) -> Case {
+pub(super) fn written(name: &str, records: &[(&str, &str)]) -> Case {
     let mut case = Case::new(name);
     let mut sheet = String::from("code number used bytes\n");
     for (record, line) in records {

@@ -2,7 +2,9 @@
 
 use second::Call;
 
-use crate::calls::{check, create, hand_over, heap_write, record_of, shared_read, shared_write};
+use crate::calls::{
+    chain, check, create, hand_over, heap_write, record_of, shared_read, shared_write,
+};
 use crate::case::Case;
 use crate::play::long_script;
 
@@ -18,6 +20,7 @@ pub fn cases() -> Vec<Case> {
     cases.extend(longest_shared_write());
     cases.extend(longest_check());
     cases.extend(longest_heap_write());
+    cases.extend(longest_chain());
     for seed in 0..8 {
         for length in [LONGEST - 1, LONGEST, LONGEST + 1] {
             let name = format!("a generated script of {length} bytes, seed {seed}");
@@ -81,6 +84,26 @@ fn longest_heap_write() -> [Case; 2] {
     running.refuse(11, heap_write(0, 0, &[7; LONGEST - 21]));
     assert_eq!((idle.script.len(), running.script.len()), (LONGEST, LONGEST));
     [idle, running]
+}
+
+/// Its first value is as long as the bytes have room for, or a byte longer. While
+/// none runs it is 4.
+fn longest_chain() -> [Case; 3] {
+    let mut idle = Case::new("a long chain while none runs");
+    idle.refuse(4, chain(2, 1, 7, &[7; LONGEST - 21]));
+    assert_eq!(idle.script.len(), LONGEST);
+    let running = |name, longer: u16, code| {
+        let mut case = Case::new(name);
+        case.accept(0, create(0, 1));
+        case.accept(0, hand_over(0));
+        let mut bytes = vec![7; LONGEST - 35];
+        let count = (bytes.len() - 2) as u16 + longer;
+        bytes[..2].copy_from_slice(&count.to_le_bytes());
+        case.refuse(code, chain(2, 1, 7, &bytes));
+        assert_eq!(case.script.len(), LONGEST);
+        case
+    };
+    [idle, running("a long value in a chain", 0, 18), running("a long value, cut", 1, 19)]
 }
 
 /// As many reads of the whole shared memory as there is room for: 22 MB.

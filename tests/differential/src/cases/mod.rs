@@ -2,6 +2,7 @@
 //! with the whole expected sheet, written out or computed by the case.
 
 mod bounds;
+mod chains;
 mod draws;
 mod exam;
 mod fnv;
@@ -25,6 +26,7 @@ pub fn all() -> Vec<Case> {
         draws::cases(),
         services::cases(),
         hand_overs::cases(),
+        chains::cases(),
         order::cases(),
         reader::cases(),
         limits::cases(),

@@ -5,7 +5,7 @@ use second::{tag_of, Call};
 
 use super::handle;
 use crate::calls::{
-    attest, check, create, hand_over, heap_read, heap_write, protect, record_of, retrieve,
+    attest, chain, check, create, hand_over, heap_read, heap_write, protect, record_of, retrieve,
     shared_read, shared_write,
 };
 use crate::case::Case;
@@ -15,7 +15,7 @@ use crate::cuts::{missing, Cut, Layout, Next, LAYOUTS};
 const LONGEST: usize = 65_536;
 
 /// Each kind's one legal map, from kind 0 on. 0, 2 and 3 are no kinds.
-const MAPS: [Option<u8>; 15] = [
+const MAPS: [Option<u8>; 16] = [
     None,
     Some(0x07),
     None,
@@ -31,17 +31,18 @@ const MAPS: [Option<u8>; 15] = [
     Some(0x2D),
     Some(0x01),
     Some(0x03),
+    Some(0x67),
 ];
 
 pub fn cases() -> Vec<Case> {
     let mut cases = vec![Case::new("an empty script")];
     cases.extend((0..=255).map(one_byte));
     // The retired kinds with every map too, their old ones among them.
-    for kind in 1..=14 {
+    for kind in 1..=15 {
         cases.extend((0..=255).map(|map| map_and_kind(map, kind)));
     }
-    for kind in (0..=255).filter(|kind| !(1..=14).contains(kind)) {
-        cases.extend([0x01, 0x03, 0x19, 0xFF, 0x00].map(|map| map_and_kind(map, kind)));
+    for kind in (0..=255).filter(|kind| !(1..=15).contains(kind)) {
+        cases.extend([0x01, 0x03, 0x19, 0x67, 0xFF, 0x00].map(|map| map_and_kind(map, kind)));
     }
     cases.extend(cut_at_every_byte());
     cases.extend(orders());
@@ -99,7 +100,11 @@ fn cut_at_every_byte() -> Vec<Case> {
     whole.accept(1, check(9, tag, b"bcd"));
     whole.accept(handle(4, 7), protect(9, 10, 4, 7));
     whole.accept(4, retrieve(9, 0, handle(4, 7)));
-    whole.accept(1 + 256 + 65_536, Call::Report);
+    whole.accept(1, heap_write(3, 40, &[1]));
+    whole.accept(tag_of(9, &[1]).0, attest(40, 1));
+    whole.accept(1, chain(2, 9, tag_of(9, &[1]).0, b"\x01\x00\x01"));
+    whole.refuse(19, chain(3, 9, handle(4, 7), b""));
+    whole.accept(1 + 256 * 2 + 65_536, Call::Report);
     whole.accept(0, hand_over(16));
     whole.accept(4, create(4, 10));
     whole.accept(0, hand_over(4));
@@ -160,13 +165,16 @@ fn orders() -> Vec<Case> {
 }
 
 /// Records with 2 or 3. Many of them are cut too.
-const MALFORMED: [(u8, &[u8]); 24] = [
+const MALFORMED: [(u8, &[u8]); 32] = [
     (2, &[0x00]),
     (2, &[0x06, 1]),
     (2, &[0x06, 15]),
     (2, &[0x02, 14, 0]),
     (2, &[0xFE, 5, 0, 0]),
-    (2, &[0xFF, 15]),
+    (2, &[0x66, 15, 2]),
+    (2, &[0xFF, 16]),
+    (2, &[0x01, 16]),
+    (2, &[0x67, 16, 2]),
     (2, &[0xFF, 0]),
     (2, &[0x07, 0]),
     (2, &[0x03, 2]),
@@ -185,11 +193,16 @@ const MALFORMED: [(u8, &[u8]); 24] = [
     (3, &[0x07, 14, 0]),
     (3, &[0xFF, 14]),
     (3, &[0x65, 12, 1]),
+    (3, &[0x01, 15]),
+    (3, &[0x65, 15, 2]),
+    (3, &[0x67, 10, 2]),
+    (3, &[0xE7, 15, 2]),
+    (3, &[0xFF, 15]),
 ];
 
 /// Records with 1, and what they miss. Their calls would be refused, or their
 /// fields name more than there is.
-const CUT: [(usize, &[u8]); 14] = [
+const CUT: [(usize, &[u8]); 19] = [
     (1, &[0xFF]),
     (1, &[0x03]),
     (1, &[0x03, 14]),
@@ -204,6 +217,11 @@ const CUT: [(usize, &[u8]); 14] = [
     (1, &[0x4B, 5, 16, 0, 0, 1, 0]),
     (255, &[0x49, 7, 0, 0, 0, 1, 0x41]),
     (2, &[0x1B, 6, 99, 0xFF, 0xFF]),
+    (1, &[0x67, 15]),
+    (8, &[0x67, 15, 1]),
+    (8, &[0x67, 15, 0, 0, 0, 0, 0, 0, 0, 0, 0]),
+    (2, &[0x67, 15, 2, 0, 0, 0, 0, 0, 0, 0, 0, 9, 9, 9, 9, 9, 9, 9, 9]),
+    (1, &[0x67, 15, 2, 0, 0, 0, 0, 0, 0, 0, 0, 9, 9, 9, 9, 9, 9, 9, 9, 2, 0, 1]),
 ];
 
 /// Good records of a service, which runs on or yields.
@@ -281,7 +299,7 @@ fn followed_by(mut case: Case, cut: &Cut, filler: u8, more: usize) -> Case {
 fn whole(case: &mut Case, record: &[u8]) {
     let (code, number) = match *record {
         [_, 1, ..] => (6, 0),
-        [_, 4 | 5 | 6 | 9 | 11 | 12, ..] => (4, 0),
+        [_, 4 | 5 | 6 | 9 | 11 | 12 | 15, ..] => (4, 0),
         [_, 7 | 8, ..] => (11, 0),
         [_, 10, ..] => (0, 0),
         // One service and one log row.

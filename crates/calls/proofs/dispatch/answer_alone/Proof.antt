@@ -1,4 +1,4 @@
-use Rattle.calls.proofs.Carried.{heap-written, heap-shown, shared-written, shared-shown, checked, retrieved, reported}
+use Rattle.calls.proofs.Carried.{heap-written, heap-shown, shared-written, shared-shown, checked, retrieved, followed, reported}
 use Rattle.calls.proofs.Ready.{ready}
 use Rattle.calls.proofs.Rest.{rest-report}
 use Rattle.record.specs.Meaning.{CallWithin}
@@ -54,6 +54,20 @@ enum-known-called-6 c = search needs
 retrieve-requires : tie.Need-retrieve-requires
 retrieve-requires c κs = let s = ready (c .before .before .before .before .before .before .before .before .before .before .pre .0) in (s .runs, s .heaps, s .escrow)
 
+enum-known-called-7 : tie.Need-enum-known-called-7
+enum-known-called-7 c = search needs
+
+bytes-of-requires-4 : tie.Need-bytes-of-requires-4
+unfolding CallWithin
+bytes-of-requires-4 c κs = (rw (c .before .called7 .given .1) at (c .before .before .before .before .before .before .before .before .before .pre .1 .0)) .0
+
+follow-chain-requires : tie.Need-follow-chain-requires
+unfolding CallWithin
+follow-chain-requires c κs =
+    let start = c .before .before .before .before .before .before .before .before .before .before in
+    let s = ready (start .pre .0) in
+    ((s .runs, s .log, s .escrow), (rw (c .before .before .called7 .given .1) at (start .pre .1 .0)) .1)
+
 report-requires : tie.Need-report-requires
 report-requires c κs = search needs
 
@@ -97,7 +111,10 @@ returns-6 : tie.Need-returns-6
 returns-6 c = retrieved (c .before .before .before .before .before .before .before .before .before .before .before .before .before .pre .0) _ _ _ (c .before .before .before .before .before .called6 .given .1) (c .before .before .retrieve .ensures .0) (c .before .before .retrieve .ensures .1)
 
 returns-7 : tie.Need-returns-7
-returns-7 c = reported (c .before .before .before .before .before .before .before .before .pre .0) _ _ _ (rest-report _ (c .before .match .keys7) (c .before .before .before .before .before .before .before .before .pre .1 .1)) (c .report .ensures)
+returns-7 c = followed (c .before .before .before .before .before .before .before .before .before .before .before .pre .0) _ _ _ (c .before .before .before .called7 .given .1) (c .before .bytes-of4 .ensures) (c .follow-chain .ensures)
+
+returns-8 : tie.Need-returns-8
+returns-8 c = reported (c .before .before .before .before .before .before .before .before .pre .0) _ _ _ (rest-report _ (c .before .match .keys8) (c .before .before .before .before .before .before .before .before .pre .1 .1)) (c .report .ensures)
 
 pub answer-alone-spec : {M : Type 1} → statement M
 answer-alone-spec =
@@ -118,6 +135,9 @@ answer-alone-spec =
     check-pair-requires
     enum-known-called-6
     retrieve-requires
+    enum-known-called-7
+    bytes-of-requires-4
+    follow-chain-requires
     report-requires
     same-length
     returns
@@ -132,4 +152,5 @@ answer-alone-spec =
     returns-5
     same-length-7
     returns-6
-    returns-7)
+    returns-7
+    returns-8)

@@ -54,11 +54,15 @@ returns-12 c = rw (c .match .keys13)
 
 returns-13 : tie.Need-returns-13
 unfolding legalMap mapOf mapIn kindOf among kinds
-returns-13 c = rw (c .match .keys1)
+returns-13 c = rw (c .match .keys14)
 
 returns-14 : tie.Need-returns-14
+unfolding legalMap mapOf mapIn kindOf among kinds
+returns-14 c = rw (c .match .keys1)
+
+returns-15 : tie.Need-returns-15
 unfolding legalMap mapOf mapIn kinds
-returns-14 c = rw (no-kind _ _ (c .match .rest))
+returns-15 c = rw (no-kind _ _ (c .match .rest))
 
 pub legal-map-spec : {M : Type 1} → statement M
 legal-map-spec =
@@ -77,4 +81,5 @@ legal-map-spec =
     returns-11
     returns-12
     returns-13
-    returns-14)
+    returns-14
+    returns-15)

@@ -1,4 +1,4 @@
--- The chain of tests: what an accepted call passed. Assumes nothing.
+-- A list of tests: what an accepted call passed. Assumes nothing.
 use Prim.Native.Nat.{ℕ, suc}
 use mathlib.Core.Path.{_≡_, refl}
 use mathlib.Core.Bool.{Bool, true, false}

@@ -1,0 +1,64 @@
+-- What following a chain answers, on the parts of the box that it is given.
+use Prim.Native.Nat.{ℕ, _+_, _-_, _≤_, _<_}
+use mathlib.Core.Bool.{not, _&&_, _||_, cond}
+use mathlib.Core.List.{List}
+use mathlib.Core.Option.{Option}
+use lib.ListN.{length, drop}
+use lib.Dec.{eqb}
+use Rattle.record.specs.declared.Handle.{Handle}
+use Rattle.record.specs.Layout.{OrRefusal, gives, refuses}
+use Rattle.ideal.specs.declared.BoxRecord.{BoxRecord}
+use Rattle.ideal.specs.declared.LogRow.{LogRow}
+use Rattle.ideal.specs.declared.EscrowRow.{EscrowRow}
+use Rattle.ideal.specs.State.{Logged, Escrowed}
+use Rattle.ideal.specs.Step.{Link, nextCount, nextCut, nextValue, bytesAfter, linkValue, unvouched, accept, _then_, firstHolding, follow, linksFrom}
+use Rattle.ideal.specs.Tables.{logTable, escrowTable}
+use Rattle.state.specs.declared.Answer.{Answer}
+use Rattle.state.specs.Answers.{settled, answered}
+use Rattle.state.specs.Parts.{TableFits, logOf}
+use Rattle.retrieval.specs.Narrow.{foundOn}
+use Rattle.chain.specs.Meaning.{ValueAndRest}
+
+-- the next logged value of the chain bytes
+unfoldable pub nextOf : List ℕ → OrRefusal ValueAndRest
+nextOf bs = cond (nextCut bs) (refuses 19) (gives (record { value = nextValue bs; rest = drop (2 + nextCount bs) bs }))
+
+module _ (log : List Logged) (found : ℕ → Handle → Option Escrowed) where
+  -- the tests of a link before its head is read
+  unfoldable pub linkRefusal : Link → List ℕ → ℕ
+  linkRefusal k bs =
+      firstHolding
+      ((19, not (eqb (k .way) 2 || eqb (k .way) 3) || (eqb (k .way) 2 && nextCut bs)) then (9, eqb (k .identity) 0)
+      then (18, unvouched log found k bs) then accept)
+
+  unfoldable pub vouched : Link → List ℕ → OrRefusal ValueAndRest
+  vouched k bs =
+      let refusal = linkRefusal k bs in
+      settled refusal (refuses refusal) (gives (record { value = linkValue log found k bs; rest = bytesAfter k bs }))
+
+  -- the answer from a link on, where so many of the sixteen may still be followed
+  unfoldable pub followedFrom : ℕ → Link → List ℕ → Answer
+  followedFrom left k bs = answered (firstHolding (follow log found left k bs)) (16 - left + linksFrom log found left k bs)
+
+module _ (b : BoxRecord) (logRows : List LogRow) (escrowRows : List EscrowRow) (logValues escrowValues : List ℕ) where
+  -- the same on the box's parts
+  abbrev pub chainFrom : ℕ → Link → List ℕ → Answer
+  chainFrom left k bs = followedFrom (logOf b logRows logValues) (foundOn b escrowRows escrowValues) left k bs
+
+  unfoldable pub chainRefusal : Link → List ℕ → ℕ
+  chainRefusal k bs =
+      firstHolding
+      ((4, eqb (b .running) 16) then follow (logOf b logRows logValues) (foundOn b escrowRows escrowValues) 16 k bs)
+
+  unfoldable pub chainAnswer : (way identity number : ℕ) → List ℕ → Answer
+  chainAnswer way identity number bs =
+      let k : Link = record { way = way; identity = identity; number = number } in
+      answered (chainRefusal k bs) (linksFrom (logOf b logRows logValues) (foundOn b escrowRows escrowValues) 16 k bs)
+
+  -- what a link's function is given: a program runs, the tables fit, the chain bytes are used up to `at`
+  pub record LinkFits (chain : List ℕ) (at left : ℕ) : Type 0 where
+    pub runs : b .running < 16
+    pub log : TableFits logTable (b .log) logRows logValues
+    pub escrow : TableFits escrowTable (b .escrow) escrowRows escrowValues
+    pub within : at ≤ length chain
+    pub few : left ≤ 16

@@ -1,0 +1,271 @@
+// A chain of custody: from link to link, logged or escrowed, to the value that ends it.
+ghost use mathlib.Core.Path.{_≡_};
+ghost use Prim.Native.Nat.{ℕ, _-_, _≤_, _<_};
+ghost use mathlib.Core.Bool.{not};
+ghost use mathlib.Core.List.{List};
+ghost use mathlib.Core.Option.{Option};
+ghost use lib.Dec.{eqb};
+ghost use lib.ListN.{length, drop};
+ghost use Rattle.record.specs.Meaning.{wayIn, numberIn, ByItsWay};
+ghost use Rattle.ideal.specs.State.{Logged, Escrowed};
+ghost use Rattle.ideal.specs.Step.{headOf, accept, _then_, firstHolding};
+ghost use Rattle.ideal.specs.Tables.{logTable, escrowTable};
+ghost use Rattle.state.specs.Answers.{answered};
+ghost use Rattle.state.specs.Parts.{TableFits, logOf};
+ghost use Rattle.retrieval.specs.Narrow.{foundOn};
+ghost use Rattle.chain.specs.Meaning.{loggedLink, escrowedLink, headIn, inChain, inEscrow, ValueWithin};
+ghost use Rattle.chain.specs.Narrow.{nextOf, vouched, LinkFits, chainFrom, chainAnswer};
+use fnv::Tag;
+use ideal::BoxRecord;
+use pairs::in_log;
+use reader::number_at;
+use record::First;
+use record::Handle;
+use retrieval::Found;
+use retrieval::find_row;
+use state::Answer;
+use state::EscrowTable;
+use state::LogTable;
+use state::accepted;
+use state::refused;
+
+// What the head of a value says: the chain ends, or which link is next.
+enum Head {
+    Malformed,
+    End,
+    Logged(u64, Tag),
+    Escrowed(u64, Handle),
+}
+
+// Where a link's value starts and ends, in the chain bytes or in the escrow's value bytes; or the link's refusal.
+enum Value {
+    At(usize, usize),
+    Refused(u8),
+}
+
+// The box record and the tables that links are looked up in. They go from link to link as one value, so that a call that
+// follows no chain has no copy of them made.
+struct LookUp {
+    held: BoxRecord,
+    log: LogTable,
+    escrow: EscrowTable,
+}
+
+// A way byte, then the next link's identity and its tag or handle: 17 bytes, where the chain doesn't end.
+fn head_of(value: &[u8]) -> Head
+    ensures { λ r. ⌜ headIn r ≡ headOf (now (value .entry)) ⌝ }
+{
+    if value.len() == 0 {
+        return Head::Malformed;
+    }
+    let first = value[0];
+    if first == 1 {
+        return Head::End;
+    }
+    if value.len() < 17 {
+        return Head::Malformed;
+    }
+    if first == 2 {
+        return Head::Logged(number_at(value, 1, 8), Tag(number_at(value, 9, 8)));
+    }
+    if first == 3 {
+        return Head::Escrowed(number_at(value, 1, 8), Handle(number_at(value, 9, 8)));
+    }
+    Head::Malformed
+}
+
+// The logged value at a position of the chain bytes, after its count of 2 bytes.
+fn next_value(chain: &[u8], at: usize) -> Value
+    requires { ⌜ at ≤ length (now chain) ⌝ }
+    ensures { λ r. ⌜ inChain (now (chain .entry)) r ≡ nextOf (drop at (now (chain .entry))) ⌝ }
+    ensures { λ r. ⌜ ValueWithin (now (chain .entry)) r ⌝ }
+{
+    if chain.len() - at < 2 {
+        return Value::Refused(19);
+    }
+    let start = at + 2;
+    let count = number_at(chain, at, 2) as usize;
+    if chain.len() - start < count {
+        return Value::Refused(19);
+    }
+    let end = start + count;
+    Value::At(start, end)
+}
+
+// A logged link's value stands in the chain bytes, and the check must say yes: a right tag is no proof that it was logged.
+fn logged_value(
+    held: BoxRecord,
+    log: LogTable,
+    log_values: &[u8],
+    chain: &[u8],
+    at: usize,
+    identity: u64,
+    tag: Tag,
+) -> Value
+    requires { ⌜ TableFits logTable (held .log) (log .rows) (now «log_values») × (at ≤ length (now chain)) ⌝ }
+    ensures { λ r. ⌜ ((found : ℕ → Handle → Option Escrowed) → inChain (now (chain .entry)) r ≡ vouched (logOf held (log .rows) (now («log_values» .entry))) found (loggedLink identity tag) (drop at (now (chain .entry)))) ⌝ }
+    ensures { λ r. ⌜ ValueWithin (now (chain .entry)) r ⌝ }
+{
+    let Value::At(start, end) = next_value(chain, at) else {
+        return Value::Refused(19);
+    };
+    if identity == 0 {
+        return Value::Refused(9);
+    }
+    let used = held.log;
+    let rows = log.rows;
+    let n = used.rows as usize;
+    if !in_log(rows, n, log_values, identity, tag, &chain[start..end]) {
+        return Value::Refused(18);
+    }
+    Value::At(start, end)
+}
+
+// An escrowed link's value is what its source escrowed for the running program under the handle.
+fn escrowed_value(held: BoxRecord, escrow: EscrowTable, identity: u64, handle: Handle) -> Value
+    requires { ⌜ (held .running < 16) × (held .escrow .rows ≤ 64) ⌝ }
+    ensures { λ r. ⌜ ((values : List ℕ) (log : List Logged) (chain : List ℕ) → inEscrow values chain r ≡ vouched log (foundOn held (escrow .rows) values) (escrowedLink identity handle) chain) ⌝ }
+    ensures { λ r. ⌜ ((values : List ℕ) → TableFits escrowTable (held .escrow) (escrow .rows) values → ValueWithin values r) ⌝ }
+{
+    if identity == 0 {
+        return Value::Refused(9);
+    }
+    let place = held.running as usize;
+    let used = held.escrow;
+    let rows = escrow.rows;
+    let n = used.rows as usize;
+    let recipient = held.identities[place];
+    let Found::At(row) = find_row(rows, n, handle, identity, recipient) else {
+        return Value::Refused(18);
+    };
+    let entry = escrow.rows[row];
+    let start = entry.first as usize;
+    let end = start + entry.length as usize;
+    Value::At(start, end)
+}
+
+// The answer at the chain's end, where no chain byte may be left over. `left` counts what was still allowed at the last link,
+// so 16 - left links came before it.
+fn ended(over: usize, left: u64) -> Answer
+    requires { ⌜ left ≤ 16 ⌝ }
+    ensures { λ r. ⌜ r ≡ answered (firstHolding ((19, not (eqb over 0)) then accept)) (17 - left) ⌝ }
+{
+    if over != 0 {
+        return refused(19);
+    }
+    accepted(17 - left)
+}
+
+// A logged link and all that come after it, where left may still be followed.
+fn logged_link(
+    tables: LookUp,
+    log_values: &[u8],
+    escrow_values: &[u8],
+    chain: &[u8],
+    at: usize,
+    identity: u64,
+    tag: Tag,
+    left: u64,
+) -> Answer
+    requires { ⌜ LinkFits (tables .held) (tables .log .rows) (tables .escrow .rows) (now «log_values») (now «escrow_values») (now chain) at left ⌝ }
+    ensures { λ r. ⌜ r ≡ chainFrom (tables .held) (tables .log .rows) (tables .escrow .rows) (now («log_values» .entry)) (now («escrow_values» .entry)) left (loggedLink identity tag) (drop at (now (chain .entry))) ⌝ }
+{
+    if left == 0 {
+        return refused(20);
+    }
+    let more = left - 1;
+    let held = tables.held;
+    let log = tables.log;
+    match logged_value(held, log, log_values, chain, at, identity, tag) {
+        Value::Refused(code) => refused(code),
+        Value::At(start, end) => match head_of(&chain[start..end]) {
+            Head::Malformed => refused(19),
+            Head::End => ended(chain.len() - end, left),
+            Head::Logged(i, t) => {
+                logged_link(tables, log_values, escrow_values, chain, end, i, t, more)
+            }
+            Head::Escrowed(i, h) => {
+                escrowed_link(tables, log_values, escrow_values, chain, end, i, h, more)
+            }
+        },
+    }
+}
+
+// An escrowed link and all that come after it: no chain byte is its own.
+fn escrowed_link(
+    tables: LookUp,
+    log_values: &[u8],
+    escrow_values: &[u8],
+    chain: &[u8],
+    at: usize,
+    identity: u64,
+    handle: Handle,
+    left: u64,
+) -> Answer
+    requires { ⌜ LinkFits (tables .held) (tables .log .rows) (tables .escrow .rows) (now «log_values») (now «escrow_values») (now chain) at left ⌝ }
+    ensures { λ r. ⌜ r ≡ chainFrom (tables .held) (tables .log .rows) (tables .escrow .rows) (now («log_values» .entry)) (now («escrow_values» .entry)) left (escrowedLink identity handle) (drop at (now (chain .entry))) ⌝ }
+{
+    if left == 0 {
+        return refused(20);
+    }
+    let more = left - 1;
+    let held = tables.held;
+    let escrow = tables.escrow;
+    match escrowed_value(held, escrow, identity, handle) {
+        Value::Refused(code) => refused(code),
+        Value::At(start, end) => match head_of(&escrow_values[start..end]) {
+            Head::Malformed => refused(19),
+            Head::End => ended(chain.len() - at, left),
+            Head::Logged(i, t) => {
+                logged_link(tables, log_values, escrow_values, chain, at, i, t, more)
+            }
+            Head::Escrowed(i, h) => {
+                escrowed_link(tables, log_values, escrow_values, chain, at, i, h, more)
+            }
+        },
+    }
+}
+
+// How many links the chain has that starts with this link of this identity; sixteen are followed at most.
+pub fn follow_chain(
+    held: BoxRecord,
+    log: LogTable,
+    escrow: EscrowTable,
+    log_values: &[u8],
+    escrow_values: &[u8],
+    identity: u64,
+    first: First,
+    bytes: &[u8],
+) -> Answer
+    requires { ⌜ (held .running ≤ 16) × TableFits logTable (held .log) (log .rows) (now «log_values») × TableFits escrowTable (held .escrow) (escrow .rows) (now «escrow_values») ⌝ }
+    requires { ⌜ ByItsWay first ⌝ }
+    ensures { λ r. ⌜ r ≡ chainAnswer held (log .rows) (escrow .rows) (now («log_values» .entry)) (now («escrow_values» .entry)) (wayIn first) identity (numberIn first) (now (bytes .entry)) ⌝ }
+{
+    if held.running == 16 {
+        return refused(4);
+    }
+    let tables = LookUp { held, log, escrow };
+    match first {
+        First::Logged(tag) => logged_link(
+            tables,
+            log_values,
+            escrow_values,
+            bytes,
+            0,
+            identity,
+            tag,
+            16,
+        ),
+        First::Escrowed(handle) => escrowed_link(
+            tables,
+            log_values,
+            escrow_values,
+            bytes,
+            0,
+            identity,
+            handle,
+            16,
+        ),
+        First::Neither { .. } => refused(19),
+    }
+}
