@@ -12,11 +12,12 @@ use ideal::EscrowRow;
 use ideal::Used;
 use record::Handle;
 
-// The length that a handle carries.
+// The length that a handle carries. By a shift: nothing that the soundness test runs divides, since hosts have machines on
+// which that is dear.
 fn length_of(handle: Handle) -> u64
     ensures { λ r. ⌜ r ≡ handle .0 / 2 ^ 48 ⌝ }
 {
-    handle.0 / 281474976710656
+    handle.0 >> 48
 }
 
 // Whether a row begins at `at` and is right by itself.

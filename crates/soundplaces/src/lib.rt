@@ -21,7 +21,7 @@ fn running_taken(running: u8, taken: u16) -> bool
     if running > 16 {
         return false;
     }
-    (taken >> running) % 2 == 1
+    (taken >> running) & 1 == 1
 }
 
 // The bit of a place with this identity.
