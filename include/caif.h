@@ -2,8 +2,8 @@
  * target/staticlib/ (x86-64).
  *
  * A host holds a box record, which goes in and comes back by value, and the tables and buffers that it lends for
- * each call. Whatever they hold, and however long they are, caif_call returns: a buffer that is not of its size, or
- * a box that is not sound, gets code 15, and a refusal alters nothing.
+ * each call. Whatever they hold, and however long they are, caif_call and caif_call_level_one return: a buffer that is
+ * not of its size, or a box that is not sound, gets code 15, and a refusal alters nothing.
  *
  * What a host owes, because no program can test it: each pointer leads to as many elements as the count after it
  * says, is not null even where that count is 0, and is aligned for its type; no two lent buffers overlap; nobody
@@ -32,6 +32,7 @@ extern "C" {
 #define CAIF_OUTPUT 1024        /* the output buffer */
 #define CAIF_VALUE 256          /* the longest value */
 #define CAIF_LINKS 16           /* the most links of a chain */
+#define CAIF_LEVEL_ONE_PLACES 4 /* the places of level-one papers, 0 to 3 */
 #define CAIF_RECORD 65556       /* the longest record: a chain with 65,535 bytes */
 #define CAIF_DRAWS 281474976710656 /* a draw is below this, 2^48; a handle is length * 2^48 + draw */
 
@@ -68,6 +69,7 @@ enum caif_way {
  * the count of a bytes field and its contents are two fields. Where conditions of several hold, the order is 15; then
  * empty record 1, bit 0 of the map down 2, no kind byte 1, kind 2, map 3, cut field 1; then rising numbers, but for
  * a chain: 4; then link by link 20, 19 by its way or a cut value, 9, 18, 19 by its head; then 19 by bytes left over.
+ * caif_call_level_one has three codes more, each at its place: 21 before 4, 22 directly after 6, 23 directly after 11.
  * Code 5, one already runs, is retired with start: no call gives it, and the number stays reserved and gets no other
  * meaning. */
 enum caif_code {
@@ -86,13 +88,17 @@ enum caif_code {
     CAIF_LOG_FULL = 13,      /* the pair is not yet logged, and rows or value bytes are lacking: attest */
     CAIF_ESCROW_FULL = 14,   /* rows or value bytes are lacking: protect */
     CAIF_NOT_SOUND = 15,     /* a lent buffer is not of its size, or the box is not sound */
-    CAIF_TOO_LONG = 16,      /* a script of more than 65,536 bytes: the program boxrun alone gives it */
+    CAIF_TOO_LONG = 16,      /* a script of more than 65,536 bytes: only the programs boxrun and levelone give it */
     CAIF_NO_ROOM = 17,       /* the writer's buffer is shorter than the record, or its bytes are over 65,535 */
     CAIF_NO_LINK = 18,       /* the check of a logged link is no, or an escrowed link has no row: chain */
     CAIF_BAD_CHAIN = 19,     /* a way is not 2 or 3, a logged value is cut in the bytes, a value is empty, begins with
                               * another byte than 1 to 3 or has fewer than 16 bytes after a 2 or 3, or bytes are left
                               * over at the end: chain */
-    CAIF_LONG_CHAIN = 20     /* a link more after CAIF_LINKS of them: chain */
+    CAIF_LONG_CHAIN = 20,    /* a link more after CAIF_LINKS of them: chain */
+    CAIF_NO_ESCROW = 21,     /* level one: protect, retrieve, chain */
+    CAIF_HIGH_PLACE = 22,    /* level one: place above 3 in a create, or in a hand over other than CAIF_NONE */
+    CAIF_OTHER_VALUE = 23    /* level one: the log has a row of this identity with another value, also where it has one with
+                              * this value too: attest */
 };
 
 /* The used rows and value bytes of a table. 4 bytes. */
@@ -166,6 +172,19 @@ struct caif_reply caif_call(struct caif_box held,
                             uint8_t *escrow_values, size_t escrow_values_size,
                             uint8_t *output, size_t output_size,
                             const uint8_t *bytes, size_t bytes_size);
+
+/* As caif_call, on the level-one box: places 0 to 3, no escrow, one value logged by each identity. Where it gives none
+ * of the codes 21, 22 and 23, it leaves and answers what caif_call does. It takes any sound box, and one box may be
+ * handed to either. */
+struct caif_reply caif_call_level_one(struct caif_box held,
+                                      struct caif_log_row *log, size_t log_rows,
+                                      struct caif_escrow_row *escrow, size_t escrow_rows,
+                                      uint8_t *heaps, size_t heaps_size,
+                                      uint8_t *shared, size_t shared_size,
+                                      uint8_t *log_values, size_t log_values_size,
+                                      uint8_t *escrow_values, size_t escrow_values_size,
+                                      uint8_t *output, size_t output_size,
+                                      const uint8_t *bytes, size_t bytes_size);
 
 /* The record of a call, at the front of out, which may be of any size; bytes of out beyond the record are
  * unaltered, and with a refusal all of them. */

@@ -72,7 +72,7 @@ fn time_plain(sides: &mut Sides, record: &[u8]) -> Duration {
 }
 
 /// An answer that is kept cannot be left uncomputed.
-fn keep(number: u64) {
+pub fn keep(number: u64) {
     static KEPT: AtomicU64 = AtomicU64::new(0);
     KEPT.fetch_xor(number, Ordering::Relaxed);
 }
@@ -178,7 +178,7 @@ fn chained() -> (Host, Link, Vec<u8>) {
 
 /// The n-th value of 64 bytes that is logged and escrowed. All are of one
 /// beginning, so that comparing two takes some bytes.
-fn value(n: u8) -> [u8; 64] {
+pub fn value(n: u8) -> [u8; 64] {
     let mut value = [9; 64];
     value[60] = n;
     value
@@ -203,7 +203,7 @@ fn full(services: u8, rows: u8) -> Host {
 }
 
 /// The box after these calls, which are accepted.
-fn after(mut host: Host, calls: &[Call]) -> Host {
+pub fn after(mut host: Host, calls: &[Call]) -> Host {
     for call in calls {
         let answer = host.call(&mut [0; OUTPUT_SIZE], &record_of(call));
         assert_eq!(answer.code, 0, "{call:?}");

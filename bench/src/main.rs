@@ -1,6 +1,7 @@
 //! The proved box, through the C interface, beside the plain Rust of `second`.
 //! Both get the same boxes and records; their answers and buffers are compared
-//! once before the timing.
+//! once before the timing. Then level-one calls, beside full calls of the archive and
+//! beside `second`.
 //!
 //!     bench ROUNDS BOXRUN SECOND SCRIPT
 //!
@@ -9,6 +10,7 @@
 #![forbid(unsafe_code)]
 
 mod calls;
+mod level_one;
 mod sheets;
 mod table;
 
@@ -40,5 +42,9 @@ fn time(rounds: usize, boxrun: &str, second: &str, script: &str) -> io::Result<E
         case.time(rounds)?;
     }
     sheets::time(sheet_rounds, boxrun, second, script)?;
+    table::level_one_head();
+    for case in level_one::cases() {
+        case.time(rounds)?;
+    }
     Ok(ExitCode::SUCCESS)
 }

@@ -13,6 +13,24 @@ pub fn line(name: &str, proved: Vec<Duration>, plain: Vec<Duration>) {
     println!("| {name} | {proved:.2} | {plain:.2} | {:.2} |", proved / plain);
 }
 
+pub fn level_one_head() {
+    println!("\n| level-one call | level one | full | ratio | plain Rust | ratio |");
+    println!("|---|---:|---:|---:|---:|---:|");
+}
+
+/// One line: the medians, and how many times longer a level-one call takes than the
+/// full call, and than plain Rust's.
+pub fn level_one_line(
+    name: &str,
+    level_one: Vec<Duration>,
+    full: Vec<Duration>,
+    plain: Vec<Duration>,
+) {
+    let (level_one, full, plain) = (median(level_one), median(full), median(plain));
+    let (by_full, by_plain) = (level_one / full, level_one / plain);
+    println!("| {name} | {level_one:.2} | {full:.2} | {by_full:.2} | {plain:.2} | {by_plain:.2} |");
+}
+
 /// In microseconds.
 fn median(mut times: Vec<Duration>) -> f64 {
     times.sort();

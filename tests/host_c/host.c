@@ -22,12 +22,21 @@ void make_fresh(struct host *host)
     host->held = caif_fresh();
 }
 
+#define LENT(host, sizes)                                                                              \
+    (host)->held, (host)->log, (sizes)->log, (host)->escrow, (sizes)->escrow, (host)->heaps,           \
+        (sizes)->heaps, (host)->shared, (sizes)->shared, (host)->log_values, (sizes)->log_values,      \
+        (host)->escrow_values, (sizes)->escrow_values, (host)->output, (sizes)->output
+
 struct caif_reply call(struct host *host, const struct sizes *sizes, const uint8_t *bytes, size_t count)
 {
-    struct caif_reply reply =
-        caif_call(host->held, host->log, sizes->log, host->escrow, sizes->escrow, host->heaps, sizes->heaps,
-                  host->shared, sizes->shared, host->log_values, sizes->log_values, host->escrow_values,
-                  sizes->escrow_values, host->output, sizes->output, bytes, count);
+    struct caif_reply reply = caif_call(LENT(host, sizes), bytes, count);
+    host->held = reply.held;
+    return reply;
+}
+
+struct caif_reply call_level_one(struct host *host, const struct sizes *sizes, const uint8_t *bytes, size_t count)
+{
+    struct caif_reply reply = caif_call_level_one(LENT(host, sizes), bytes, count);
     host->held = reply.held;
     return reply;
 }
@@ -91,6 +100,7 @@ int main(void)
     check_layout();
     check_calls();
     check_refusals();
+    check_level_one();
     printf("%u passed, %u failed\n", passed, failed);
     return passed == 0 || failed != 0;
 }

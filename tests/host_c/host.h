@@ -36,6 +36,9 @@ void make_fresh(struct host *host);
 /* One call; the box record that comes back is kept. */
 struct caif_reply call(struct host *host, const struct sizes *sizes, const uint8_t *bytes, size_t count);
 
+/* The same through the level-one entry. */
+struct caif_reply call_level_one(struct host *host, const struct sizes *sizes, const uint8_t *bytes, size_t count);
+
 /* Asserts each part of the box and of the buffers, and the elements that are not lent. */
 void check_host(const struct host *is, const struct host *wanted, const char *label);
 
@@ -49,5 +52,6 @@ void run_example(struct host *host);
 void check_layout(void);
 void check_calls(void);
 void check_refusals(void);
+void check_level_one(void);
 
 #endif

@@ -63,6 +63,7 @@ static void check_sizes(void)
     check(CAIF_OUTPUT == 1024 && CAIF_VALUE == 256, "sizes", "the output buffer and a value");
     check(CAIF_DRAWS == (uint64_t)1 << 48, "sizes", "draws");
     check(CAIF_LINKS == 16, "sizes", "the links of a chain");
+    check(CAIF_LEVEL_ONE_PLACES == 4, "sizes", "the places of level one");
     check(CAIF_RECORD == 1 + 1 + 1 + 8 + 8 + 2 + 65535, "sizes", "the longest record, a chain's");
 }
 
@@ -112,6 +113,9 @@ static int is_code(enum caif_code code)
     case CAIF_NO_LINK:
     case CAIF_BAD_CHAIN:
     case CAIF_LONG_CHAIN:
+    case CAIF_NO_ESCROW:
+    case CAIF_HIGH_PLACE:
+    case CAIF_OTHER_VALUE:
         return 1;
     }
     return 0;
@@ -147,6 +151,8 @@ static void check_codes(void)
     check(CAIF_LOG_FULL == 13 && CAIF_ESCROW_FULL == 14, "codes", "full tables");
     check(CAIF_NOT_SOUND == 15 && CAIF_TOO_LONG == 16 && CAIF_NO_ROOM == 17, "codes", "the host's");
     check(CAIF_NO_LINK == 18 && CAIF_BAD_CHAIN == 19 && CAIF_LONG_CHAIN == 20, "codes", "a chain's");
+    check(CAIF_NO_ESCROW == 21 && CAIF_HIGH_PLACE == 22 && CAIF_OTHER_VALUE == 23, "codes", "level one's");
+    check(!is_code((enum caif_code)24), "codes", "23 is the last");
 }
 
 void check_layout(void)

@@ -1,115 +1,30 @@
 // Runs a script of records from standard input on a fresh box, and prints its answer sheet.
-mod output;
-
-ghost use mathlib.Core.Path.{_≡_};
-ghost use Prim.Native.Nat.{_≤_};
-ghost use lib.ListN.{length};
-ghost use Rattle.sheet.specs.Sheet.{header, sheet};
-ghost use Rattle.boxrun.specs.Printing.{ReadWithin, PrintedWhole};
+ghost use Rattle.ideal.specs.Box.{callOn};
+ghost use Rattle.printing.specs.Printing.{Ended};
+use ideal::Profile;
 use libc::STDERR_FILENO;
-use libc::STDIN_FILENO;
-use output::Printed;
-use output::Progress;
+use printing::Ending;
 
-// How many bytes of a script were read, or that standard input cannot be read.
-enum Input {
-    Bytes(usize),
-    Unreadable,
-}
-
-// Reads until the buffer is full or the input ends.
-fn read_script(script: &mut [u8]) -> Input
-    ensures { λ r. ⌜ ReadWithin r (length (now (script .exit))) ⌝ }
+fn print_sheet() -> Ending
+    ensures { λ r. ⌜ Ended r callOn ⌝ }
 {
-    let mut n: usize = 0;
-    while n < script.len() {
-        let part = &mut script[n..];
-        let got = libc::read(STDIN_FILENO, part);
-        if got < 0 {
-            return Input::Unreadable;
-        }
-        let more = io::count(got, part);
-        if more == 0 {
-            return Input::Bytes(n);
-        }
-        n += more;
-    }
-    Input::Bytes(n)
-}
-
-// The lines after the header, 65,536 bytes of them or fewer at a time, until no input is left, after a line that is the last,
-// or where writing fails.
-// `head` counts the header.
-fn run(script: &[u8], head: Progress) -> Printed
-    requires { ⌜ (length (now script) ≤ 65536) × (head .printed ≡ length header) ⌝ }
-    ensures { λ r. ⌜ PrintedWhole r (sheet (now (script .entry))) ⌝ }
-{
-    let mut held = state::fresh_record();
-    let mut log = state::fresh_log();
-    let mut escrow = state::fresh_escrow();
-    let mut heaps = [0u8; 4096];
-    let mut shared = [0u8; 1024];
-    let mut log_values = [0u8; 4096];
-    let mut escrow_values = [0u8; 4096];
-    let mut text = [0u8; 65536];
-    let mut so_far = head;
-    let mut at: usize = 0;
-    while at < script.len() {
-        let lines = turns::next_lines(
-            held,
-            log,
-            escrow,
-            &mut heaps,
-            &mut shared,
-            &mut log_values,
-            &mut escrow_values,
-            &script[at..],
-            &mut text,
-        );
-        held = lines.held;
-        log = lines.log;
-        escrow = lines.escrow;
-        let size = lines.size;
-        let part = output::print(script, so_far, &text[..size]);
-        let Printed::UpTo(more) = part else {
-            return part;
-        };
-        so_far = more;
-        if lines.last {
-            return part;
-        }
-        at += lines.used;
-    }
-    Printed::UpTo(so_far)
-}
-
-// The sheet of the script: the header, and its lines or the line for too long a script.
-fn print_sheet(script: &[u8]) -> Printed
-    ensures { λ r. ⌜ PrintedWhole r (sheet (now (script .entry))) ⌝ }
-{
-    let part = output::print(script, output::nothing(), &sheet::header());
-    let Printed::UpTo(head) = part else {
-        return part;
-    };
-    if script.len() <= 65536 {
-        return run(script, head);
-    }
-    output::print(script, head, &sheet::too_long())
+    printing::print_answers(Profile::Full)
 }
 
 fn main() {
-    let mut script = [0u8; 65537];
-    let Input::Bytes(n) = read_script(&mut script) else {
-        io::write_all(
-            STDERR_FILENO,
-            b"boxrun: standard input cannot be read; no sheet is printed\n",
-        );
-        return;
-    };
-    if let Printed::Failed(_) = print_sheet(&script[..n]) {
-        io::write_all(
-            STDERR_FILENO,
-            b"boxrun: standard output cannot be written; the sheet is not whole\n",
-        );
+    match print_sheet() {
+        Ending::Whole(_) => {}
+        Ending::Unread => {
+            io::write_all(
+                STDERR_FILENO,
+                b"boxrun: standard input cannot be read; no sheet is printed\n",
+            );
+        }
+        Ending::Unwritten(_) => {
+            io::write_all(
+                STDERR_FILENO,
+                b"boxrun: standard output cannot be written; the sheet is not whole\n",
+            );
+        }
     }
 }

@@ -1,15 +1,17 @@
 -- A call on the copies of lent rows is a call on the lent rows; and rows that are not 64 are refused. Assumes nothing.
 use Prim.Native.Nat.{ℕ}
-use mathlib.Core.Path.{_≡_, refl, sym, _∙_}
-use mathlib.Core.Bool.{Bool, true, false, not, _&&_, true≢false}
+use mathlib.Core.Path.{_≡_, sym, _∙_}
+use mathlib.Core.Bool.{true, false, true≢false}
 use mathlib.Core.List.{List}
 use lib.ListN.{length}
 use lib.Dec.{eqb}
 use borrow.Author.Tests.{eqb-true, eq-eqb, not-false}
 use Rattle.lists.proofs.Bools.{by-cases, and-left, and-right}
 use Rattle.ideal.specs.declared.BoxRecord.{BoxRecord}
+use Rattle.ideal.specs.declared.Profile.{Profile}
 use Rattle.ideal.specs.declared.LogRow.{LogRow}
 use Rattle.ideal.specs.declared.EscrowRow.{EscrowRow}
+use Rattle.ideal.specs.LevelOne.{refusalIn, boxOf}
 use Rattle.ideal.proofs.Facts.{facts}
 use Rattle.soundness.specs.Parts.{tablesOf}
 use Rattle.state.specs.declared.LogTable.{LogTable}
@@ -28,10 +30,10 @@ abbrev pub replyOf : Change → LentReply
 replyOf c = record { held = c .held; answer = c .answer }
 
 -- what `call` says of copied rows
-abbrev pub CalledResult : BoxRecord → LogTable → EscrowTable → (heaps shared logValues escrowValues output bytes : List ℕ) → Change
+abbrev pub CalledResult : Profile → BoxRecord → LogTable → EscrowTable → (heaps shared logValues escrowValues output bytes : List ℕ) → Change
     → (heaps′ shared′ logValues′ escrowValues′ output′ : List ℕ) → Type 0
-CalledResult b log escrow heaps shared lv ev output bytes c heaps′ shared′ lv′ ev′ output′ =
-    resultOf log escrow c heaps′ shared′ lv′ ev′ output′ ≡ entryOn (tablesOf b log escrow heaps shared lv ev) bytes output
+CalledResult p b log escrow heaps shared lv ev output bytes c heaps′ shared′ lv′ ev′ output′ =
+    resultOf log escrow c heaps′ shared′ lv′ ev′ output′ ≡ entryOn (boxOf p) (tablesOf b log escrow heaps shared lv ev) bytes output
 
 -- what is left to show once it has returned c: its rows fit, and `answers` holds of them
 pub record Settles (c : Change) (logRows : List LogRow) (escrowRows : List EscrowRow) (Right : Type 0) : Type 0 where
@@ -39,14 +41,14 @@ pub record Settles (c : Change) (logRows : List LogRow) (escrowRows : List Escro
   pub logFits : Fits (c .edits .log .put) (c .edits .log .at) (length logRows)
   pub escrowFits : Fits (c .edits .escrow .put) (c .edits .escrow .at) (length escrowRows)
 
-pub settles : (b : BoxRecord) (log : LogTable) (escrow : EscrowTable) (heaps shared lv ev output bytes : List ℕ) (c : Change)
+pub settles : (p : Profile) (b : BoxRecord) (log : LogTable) (escrow : EscrowTable) (heaps shared lv ev output bytes : List ℕ) (c : Change)
     {heaps′ shared′ lv′ ev′ output′ : List ℕ} {logRows : List LogRow} {escrowRows : List EscrowRow}
     → log .rows ≡ logRows → escrow .rows ≡ escrowRows → length logRows ≡ 64 → length escrowRows ≡ 64
-    → CalledResult b log escrow heaps shared lv ev output bytes c heaps′ shared′ lv′ ev′ output′ × EditsBy b (c .held) (c .edits)
+    → CalledResult p b log escrow heaps shared lv ev output bytes c heaps′ shared′ lv′ ev′ output′ × EditsBy b (c .held) (c .edits)
     → Settles c logRows escrowRows
     (lentResult (replyOf c) (logEdited (c .edits .log) logRows) (escrowEdited (c .edits .escrow) escrowRows) heaps′ shared′ lv′ ev′ output′
-    ≡ entryOn (lentTables b logRows escrowRows heaps shared lv ev) bytes output)
-settles b log escrow heaps shared lv ev output bytes c el ee nl ne said =
+    ≡ entryOn (boxOf p) (lentTables b logRows escrowRows heaps shared lv ev) bytes output)
+settles p b log escrow heaps shared lv ev output bytes c el ee nl ne said =
     record {
       answers = rw (← el, ← ee) (said .0);
       logFits = rw nl (said .1 .log .fits);
@@ -61,15 +63,15 @@ rows-whole n m e =
     let both = not-false _ e in
     (eqb-true n 64 (and-left (eqb n 64) _ both), eqb-true m 64 (and-right (eqb n 64) _ both))
 
-pub refused-result : (b : BoxRecord) (logRows : List LogRow) (escrowRows : List EscrowRow) (heaps shared lv ev output bytes : List ℕ)
+pub refused-result : (p : Profile) (b : BoxRecord) (logRows : List LogRow) (escrowRows : List EscrowRow) (heaps shared lv ev output bytes : List ℕ)
     → rowsLost (length logRows) (length escrowRows) ≡ true
     → lentResult (record { held = b; answer = refusedWith 15 }) logRows escrowRows heaps shared lv ev output
-    ≡ entryOn (lentTables b logRows escrowRows heaps shared lv ev) bytes output
+    ≡ entryOn (boxOf p) (lentTables b logRows escrowRows heaps shared lv ev) bytes output
 unfolding rowsLost
-refused-result b logRows escrowRows heaps shared lv ev output bytes e =
+refused-result p b logRows escrowRows heaps shared lv ev output bytes e =
     let t = lentTables b logRows escrowRows heaps shared lv ev in
     let n = length output in
-    refused-entry t bytes output
+    refused-entry (refusalIn p) t bytes output
     (by-cases (readyOn t n)
     (λ h.
     let f = facts t n (ready-sound t n h) in

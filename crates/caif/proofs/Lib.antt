@@ -1,3 +1,5 @@
 pub mod Counting
 pub mod Locals
 pub mod OneTable
+pub mod Lending
+pub mod Handed

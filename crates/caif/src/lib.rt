@@ -1,21 +1,20 @@
 // The box for hosts in C: what include/caif.h declares.
 mod counted;
+mod entry;
+mod lent;
 mod writing;
 
 ghost use mathlib.Core.Path.{_≡_};
 ghost use Rattle.ideal.specs.Tables.{freshTables};
+ghost use Rattle.ideal.specs.Box.{callOn};
+ghost use Rattle.ideal.specs.LevelOne.{levelOneOn};
 ghost use Rattle.calls.specs.Entry.{entryOn};
 ghost use Rattle.caif.specs.Lent.{lentTables, lentResult};
-use calls::call;
-use counted::lost;
-use counted::refused_rows;
+use entry::entry_call;
 use ideal::BoxRecord;
 use ideal::EscrowRow;
 use ideal::LogRow;
-use rows::copy_escrow;
-use rows::copy_log;
-use rows::edit_escrow;
-use rows::edit_log;
+use ideal::Profile;
 use state::Answer;
 use state::fresh_record;
 pub use writing::caif_write;
@@ -57,43 +56,53 @@ pub extern "C" fn caif_call(
 ) -> LentReply
     ensures { λ r. ⌜
         lentResult r (now (log .exit)) (now (escrow .exit)) (now (heaps .exit)) (now (shared .exit)) (now («log_values» .exit)) (now («escrow_values» .exit)) (now (output .exit))
-        ≡ entryOn (lentTables held (now (log .entry)) (now (escrow .entry)) (now (heaps .entry)) (now (shared .entry)) (now («log_values» .entry)) (now («escrow_values» .entry)))
+        ≡ entryOn callOn (lentTables held (now (log .entry)) (now (escrow .entry)) (now (heaps .entry)) (now (shared .entry)) (now («log_values» .entry)) (now («escrow_values» .entry)))
         (now (bytes .entry)) (now (output .entry))
         ⌝ }
 {
-    // Before the copies: a table that is copied in one arm and made in another is moved at every use.
-    if lost(log.len(), escrow.len()) {
-        return refused_rows(held);
-    }
-    let l = copy_log(&*log);
-    let e = copy_escrow(&*escrow);
-    let c = call(
+    entry_call(
+        Profile::Full,
         held,
-        l,
-        e,
+        log,
+        escrow,
         heaps,
         shared,
         log_values,
         escrow_values,
         output,
         bytes,
-    );
-    edit_log(
+    )
+}
+
+// The same on the level-one box (document 02, P5).
+#[no_mangle]
+pub extern "C" fn caif_call_level_one(
+    held: BoxRecord,
+    log: &mut [LogRow],
+    escrow: &mut [EscrowRow],
+    heaps: &mut [u8],
+    shared: &mut [u8],
+    log_values: &mut [u8],
+    escrow_values: &mut [u8],
+    output: &mut [u8],
+    bytes: &[u8],
+) -> LentReply
+    ensures { λ r. ⌜
+        lentResult r (now (log .exit)) (now (escrow .exit)) (now (heaps .exit)) (now (shared .exit)) (now («log_values» .exit)) (now («escrow_values» .exit)) (now (output .exit))
+        ≡ entryOn levelOneOn (lentTables held (now (log .entry)) (now (escrow .entry)) (now (heaps .entry)) (now (shared .entry)) (now («log_values» .entry)) (now («escrow_values» .entry)))
+        (now (bytes .entry)) (now (output .entry))
+        ⌝ }
+{
+    entry_call(
+        Profile::LevelOne,
+        held,
         log,
-        c.edits.log.put,
-        c.edits.log.at,
-        c.edits.log.row,
-        c.edits.log.fall,
-    );
-    edit_escrow(
         escrow,
-        c.edits.escrow.put,
-        c.edits.escrow.at,
-        c.edits.escrow.row,
-        c.edits.escrow.fall,
-    );
-    LentReply {
-        held: c.held,
-        answer: c.answer,
-    }
+        heaps,
+        shared,
+        log_values,
+        escrow_values,
+        output,
+        bytes,
+    )
 }

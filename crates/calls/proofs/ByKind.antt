@@ -6,7 +6,7 @@ use Rattle.record.specs.declared.Call as code
 use Rattle.record.specs.declared.Call.the-variants.{Create, Exit, HeapWrite, HeapRead, SharedWrite, SharedRead, Attest, Check, Protect, Retrieve, Report, HandOver, Chain}
 use Rattle.record.specs.Call.{Call}
 use Rattle.record.specs.Meaning.{bytesIn, wayIn, numberIn, callIn}
-use Rattle.ideal.specs.Step.{step}
+use Rattle.ideal.specs.Step.{stepBy}
 use Rattle.ideal.specs.Tables.{Tables, tables, stateOf}
 use Rattle.ideal.specs.Box.{Result, laid, outputAfter}
 use Rattle.ideal.specs.Layouts.{Sound}
@@ -33,7 +33,7 @@ use Rattle.retrieval.specs.Narrow.{retrieveAnswer, retrieveHeaps}
 use Rattle.retrieval.proofs.Bridge.{retrieve-step}
 use Rattle.chain.specs.Narrow.{chainAnswer}
 use Rattle.chain.proofs.Bridge.{chain-step}
-use Rattle.calls.specs.Entry.{EntryResult, resultOn, carriedOn}
+use Rattle.calls.specs.Entry.{EntryResult, resultOn, carriedIn, carriedOn}
 
 -- ---- what each kind leaves and answers
 
@@ -88,7 +88,7 @@ showed-unused (suc r) n = refl
 
 shows-bytes : (t : Tables) (c : Call) (a : Answer) (before after : List ℕ) → a .used ≡ 0 → Shows t c 0 a before after
     → replied t a after ≡ carriedOn t c before
-unfolding carriedOn resultOn laid step
+unfolding carriedIn resultOn laid stepBy
 shows-bytes t c a before after u s =
     let q = sym (s .answers) in
     let unused = u ∙ ap (λ x. x .answer .used) q in
@@ -103,7 +103,7 @@ shows-bytes t c a before after u s =
 
 module _ (t : Tables) (k : Valid (stateOf t)) (e : tables (stateOf t) ≡ t) (output bytes : List ℕ) where
   by-kind-valid : (c : code.Call) → byKind t output bytes c ≡ carriedOn t (callIn bytes c) output
-  unfolding byKind callIn carriedOn createOn exitOn heapWriteAnswer heapReadAnswer sharedWriteAnswer sharedReadAnswer checkOn retrieveAnswer reportOn handOverOn chainAnswer
+  unfolding byKind callIn carriedIn createOn exitOn heapWriteAnswer heapReadAnswer sharedWriteAnswer sharedReadAnswer checkOn retrieveAnswer reportOn handOverOn chainAnswer
   by-kind-valid (Create p i) = shows-none _ _ output (create-step t k e p i 0) (answered-alone _ _)
   by-kind-valid Exit = shows-none _ _ output (exit-step t k e 0) (answered-alone _ _)
   by-kind-valid (HeapWrite p o part) =

@@ -1,7 +1,7 @@
 -- What the reader finds, and what the first test says, of the whole box. Assumes nothing.
 use Prim.Native.Nat.{ℕ, zero, suc}
 use mathlib.Core.Path.{_≡_, refl, ap, _∙_}
-use mathlib.Core.Bool.{true, false}
+use mathlib.Core.Bool.{true, false, cond, true≢false}
 use mathlib.Core.List.{List}
 use lib.ListN.{length}
 use lib.Dec.{eqb}
@@ -12,13 +12,16 @@ use Rattle.record.specs.declared.Reading as found
 use Rattle.record.specs.declared.Reading.the-variants.{Whole}
 use Rattle.record.specs.Read.{refused, read}
 use Rattle.record.specs.Meaning.{callIn, readingIn}
-use Rattle.ideal.specs.Step.{refusal, refuse, refusedAnswer, accepted, settle, step, onReading, stepOn}
+use Rattle.ideal.specs.State.{State}
+use Rattle.ideal.specs.Step.{refusal, refuse, refusedAnswer, accepted, settle, stepBy, readingBy, stepOnBy}
 use Rattle.ideal.specs.Tables.{Tables, stateOf}
 use Rattle.ideal.specs.Soundness.{pass, sizesRight, sound}
-use Rattle.ideal.specs.Box.{laid, unsound, callOn, outputAfter}
+use Rattle.ideal.specs.Box.{laid, unsound, boxBy, outputAfter}
 use Rattle.ideal.specs.Layouts.{Sound}
+use Rattle.ideal.specs.declared.Profile.{Profile}
+use Rattle.ideal.specs.LevelOne.{refusalIn, boxOf}
 use Rattle.lists.proofs.Bools.{and-left, and-right}
-use Rattle.ideal.proofs.Laid.{tables-state}
+use Rattle.ideal.proofs.Laid.{valid-sound, tables-state}
 use Rattle.ideal.specs.declared.BoxRecord.{BoxRecord}
 use Rattle.state.specs.declared.LogTable.{LogTable}
 use Rattle.state.specs.declared.EscrowTable.{EscrowTable}
@@ -26,8 +29,10 @@ use Rattle.state.specs.declared.Answer.{Answer}
 use Rattle.state.specs.declared.Change.{Change}
 use Rattle.state.specs.Edits.{unchanged, EditsBy}
 use Rattle.state.proofs.Edited.{no-edits}
-use Rattle.soundness.specs.Parts.{tablesOf, Lent}
-use Rattle.calls.specs.Entry.{EntryResult, resultOf, withUsed, resultOn, entryOn, readyOn, soundOn, carriedOn}
+use Rattle.soundness.specs.Parts.{Lent}
+use Rattle.calls.specs.Entry.{EntryResult, resultOf, withUsed, resultOn, entryOn, readyOn, soundOn, carriedIn, carriedOn}
+use Rattle.levels.specs.Narrow.{ownRefusal}
+use Rattle.levels.proofs.Bridge.{refused-in}
 
 -- a refusal that comes before any call
 abbrev pub refusedOn : Tables → (code number : ℕ) → (output : List ℕ) → EntryResult
@@ -63,26 +68,50 @@ unfolding resultOn laid settle refuse refusedAnswer accepted outputAfter
 settled-used t c used output zero = refl
 settled-used t c used output (suc r) = refl
 
-pub whole-read : (t : Tables) (bytes output : List ℕ) (r : found.Reading) → readingIn bytes r ≡ read bytes
-    → (c : code.Call) (used : ℕ) → r ≡ Whole c used → usedIs used (carriedOn t (callIn bytes c) output) ≡ soundOn t bytes output
-unfolding carriedOn soundOn stepOn readingIn onReading step
-whole-read t bytes output r h c used e = rw (← h, e) (settled-used t (callIn bytes c) used output (refusal (stateOf t) (callIn bytes c)))
+pub whole-read : (p : Profile) (t : Tables) (bytes output : List ℕ) (r : found.Reading) → readingIn bytes r ≡ read bytes
+    → (c : code.Call) (used : ℕ) → r ≡ Whole c used → usedIs used (carriedIn p t (callIn bytes c) output) ≡ soundOn p t bytes output
+unfolding carriedIn soundOn stepOnBy readingIn readingBy stepBy
+whole-read p t bytes output r h c used e =
+    rw (← h, e) (settled-used t (callIn bytes c) used output (refusalIn p (stateOf t) (callIn bytes c)))
 
-pub refused-read : {t : Tables} {n : ℕ} → Sound t n → (bytes output : List ℕ) (code number : ℕ) → read bytes ≡ refused code number
-    → refusedOn t code number output ≡ soundOn t bytes output
-unfolding soundOn stepOn onReading resultOn laid refuse refusedAnswer outputAfter
-refused-read {t} {n} s bytes output code number h = rw (h, tables-state t n s)
+pub refused-read : (p : Profile) {t : Tables} {n : ℕ} → Sound t n → (bytes output : List ℕ) (code number : ℕ)
+    → read bytes ≡ refused code number → refusedOn t code number output ≡ soundOn p t bytes output
+unfolding soundOn stepOnBy readingBy resultOn laid refuse refusedAnswer outputAfter
+refused-read p {t} {n} s bytes output code number h = rw (h, tables-state t n s)
+
+-- ---- what a profile refuses itself
+
+-- a refusal that reads no record
+refused-call : {t : Tables} {n : ℕ} → Sound t n → (c : Call) (output : List ℕ) (code : ℕ) → eqb code 0 ≡ false
+    → refusedOn t code 0 output ≡ resultOn (laid (settle code (stateOf t) c 0)) output
+unfolding resultOn laid settle refuse refusedAnswer outputAfter
+refused-call s c output zero h = absurd (true≢false h)
+refused-call {t} {n} s c output (suc code) h = rw (tables-state t n s)
+
+module _ {t : Tables} {n : ℕ} (s : Sound t n) (p : Profile) (bytes output : List ℕ) (c : code.Call) {own : ℕ}
+    (is : own ≡ ownRefusal p (t .box) (t .logRows) (t .heaps) (t .logValues) c) where
+  refused-is : refusalIn p (stateOf t) (callIn bytes c) ≡ cond (eqb own 0) (refusal (stateOf t) (callIn bytes c)) own
+  refused-is = rw is (refused-in t (valid-sound t n s) (tables-state t n s) p bytes c)
+
+  pub own-refused : eqb own 0 ≡ false → refusedOn t own 0 output ≡ carriedIn p t (callIn bytes c) output
+  unfolding carriedIn stepBy
+  own-refused h = rw (refused-is, h) (refused-call s (callIn bytes c) output own h)
+
+  pub none-refused : eqb own 0 ≡ true → carriedOn t (callIn bytes c) output ≡ carriedIn p t (callIn bytes c) output
+  unfolding carriedIn stepBy
+  none-refused h = rw (refused-is, h)
 
 -- ---- the first test
 
-module _ (t : Tables) (bytes output : List ℕ) where
-  pub refused-entry : readyOn t (length output) ≡ false → refusedOn t 15 0 output ≡ entryOn t bytes output
-  unfolding readyOn entryOn callOn unsound resultOn refusedAnswer outputAfter
+module _ (refuses : State → Call → ℕ) (t : Tables) (bytes output : List ℕ) where
+  pub refused-entry : readyOn t (length output) ≡ false → refusedOn t 15 0 output ≡ entryOn (boxBy refuses) t bytes output
+  unfolding readyOn entryOn boxBy unsound resultOn refusedAnswer outputAfter
   refused-entry h = rw h
 
-  pub sound-entry : readyOn t (length output) ≡ true → soundOn t bytes output ≡ entryOn t bytes output
-  unfolding readyOn entryOn callOn soundOn
-  sound-entry h = rw h
+pub sound-entry : (p : Profile) (t : Tables) (bytes output : List ℕ) → readyOn t (length output) ≡ true
+    → soundOn p t bytes output ≡ entryOn (boxOf p) t bytes output
+unfolding readyOn entryOn boxBy soundOn
+sound-entry p t bytes output h = rw h
 
 pub ready-sound : (t : Tables) (n : ℕ) → readyOn t n ≡ true → Sound t n
 unfolding readyOn

@@ -4,10 +4,13 @@ use mathlib.Core.Bool.{Bool, _&&_}
 use mathlib.Core.List.{List}
 use lib.ListN.{length}
 use Rattle.record.specs.Call.{Call}
-use Rattle.ideal.specs.Step.{step, stepOn}
+use Rattle.ideal.specs.declared.Profile.{Profile}
+use Rattle.ideal.specs.declared.Profile.the-variants.{Full}
+use Rattle.ideal.specs.Step.{stepBy, stepOnBy}
 use Rattle.ideal.specs.Tables.{Tables, stateOf}
 use Rattle.ideal.specs.Soundness.{sizesRight, sound}
-use Rattle.ideal.specs.Box.{Result, laid, callOn, outputAfter}
+use Rattle.ideal.specs.Box.{Element, Result, laid, outputAfter}
+use Rattle.ideal.specs.LevelOne.{refusalIn}
 use Rattle.state.specs.declared.LogTable.{LogTable}
 use Rattle.state.specs.declared.EscrowTable.{EscrowTable}
 use Rattle.state.specs.declared.Answer.{Answer}
@@ -48,9 +51,9 @@ resultOn r output =
       output = outputAfter (r .answer) output;
     }
 
--- the whole box
-unfoldable pub entryOn : Tables → (bytes output : List ℕ) → EntryResult
-entryOn t bytes output = resultOn (callOn t (record { bytes = bytes; outputSize = length output })) output
+-- a whole box
+unfoldable pub entryOn : (Tables → Element → Result) → Tables → (bytes output : List ℕ) → EntryResult
+entryOn box t bytes output = resultOn (box t (record { bytes = bytes; outputSize = length output })) output
 
 -- ---- its parts
 
@@ -59,12 +62,16 @@ unfoldable pub readyOn : Tables → (outputSize : ℕ) → Bool
 readyOn t outputSize = sizesRight t outputSize && sound t
 
 -- a record's bytes, on a sound box
-unfoldable pub soundOn : Tables → (bytes output : List ℕ) → EntryResult
-soundOn t bytes output = resultOn (laid (stepOn (stateOf t) bytes)) output
+unfoldable pub soundOn : Profile → Tables → (bytes output : List ℕ) → EntryResult
+soundOn p t bytes output = resultOn (laid (stepOnBy (refusalIn p) (stateOf t) bytes)) output
 
 -- a call, on a sound box: it reads no record, so that it uses no byte of one
-unfoldable pub carriedOn : Tables → Call → (output : List ℕ) → EntryResult
-carriedOn t c output = resultOn (laid (step (stateOf t) c 0)) output
+unfoldable pub carriedIn : Profile → Tables → Call → (output : List ℕ) → EntryResult
+carriedIn p t c output = resultOn (laid (stepBy (refusalIn p) (stateOf t) c 0)) output
+
+-- in the full box
+abbrev pub carriedOn : Tables → Call → (output : List ℕ) → EntryResult
+carriedOn = carriedIn Full
 
 -- the answer to a cut record: so many bytes finish the field being read
 abbrev pub cutWith : (missing : ℕ) → Answer

@@ -4,7 +4,7 @@ ghost use lib.ListN.{length};
 ghost use Rattle.record.specs.Meaning.{bytesIn, callIn, PartWithin, CallWithin};
 ghost use Rattle.ideal.specs.Layouts.{Sound};
 ghost use Rattle.soundness.specs.Parts.{tablesOf};
-ghost use Rattle.calls.specs.Entry.{resultOf, carriedOn};
+ghost use Rattle.calls.specs.Entry.{resultOf, carriedIn, carriedOn};
 ghost use Rattle.state.specs.Edits.{unchanged, EditsBy};
 ghost use Rattle.calls.specs.Alone.{Alone};
 use chain::follow_chain;
@@ -12,6 +12,8 @@ use escrow::protect;
 use heap::heap_read;
 use heap::heap_write;
 use ideal::BoxRecord;
+use ideal::Profile;
+use levels::own_refusal;
 use log::attest;
 use log::check_pair;
 use record::Call;
@@ -27,6 +29,7 @@ use state::Answer;
 use state::Change;
 use state::EscrowTable;
 use state::LogTable;
+use state::refuse;
 use state::unedited;
 
 // The bytes of a bytes field.
@@ -108,7 +111,7 @@ fn answer_alone(
 }
 
 // A call on a sound box, whoever read it: no byte of a record is used.
-pub fn carry_out(
+fn carry_out(
     held: BoxRecord,
     log: LogTable,
     escrow: EscrowTable,
@@ -158,4 +161,48 @@ pub fn carry_out(
             unedited(held, a)
         }
     }
+}
+
+// A call in a profile on a sound box, whoever read it: what refuses it there comes before any change, and else it is
+// carried out as in the full box.
+pub fn carry_out_in(
+    profile: Profile,
+    held: BoxRecord,
+    log: LogTable,
+    escrow: EscrowTable,
+    heaps: &mut [u8],
+    shared: &mut [u8],
+    log_values: &mut [u8],
+    escrow_values: &mut [u8],
+    output: &mut [u8],
+    bytes: &[u8],
+    called: Call,
+) -> Change
+    requires { ⌜
+        Sound (tablesOf held log escrow (now heaps) (now shared) (now «log_values») (now «escrow_values»)) (length (now output))
+        ⌝ }
+    requires { ⌜ CallWithin (now bytes) called ⌝ }
+    ensures { λ r. ⌜
+        resultOf log escrow r (now (heaps .exit)) (now (shared .exit)) (now («log_values» .exit)) (now («escrow_values» .exit)) (now (output .exit))
+        ≡ carriedIn profile (tablesOf held log escrow (now (heaps .entry)) (now (shared .entry)) (now («log_values» .entry)) (now («escrow_values» .entry)))
+        (callIn (now (bytes .entry)) called) (now (output .entry))
+        ⌝ }
+    ensures { λ r. ⌜ EditsBy held (r .held) (r .edits) ⌝ }
+{
+    let code = own_refusal(profile, held, log, heaps, log_values, called);
+    if code != 0 {
+        return refuse(held, code);
+    }
+    carry_out(
+        held,
+        log,
+        escrow,
+        heaps,
+        shared,
+        log_values,
+        escrow_values,
+        output,
+        bytes,
+        called,
+    )
 }

@@ -1,14 +1,16 @@
 // The box's entry: a record's bytes are read and carried out on the box that a host hands in.
 mod dispatch;
 
-pub use dispatch::carry_out;
+pub use dispatch::carry_out_in;
 ghost use mathlib.Core.Path.{_≡_};
 ghost use lib.ListN.{length};
 ghost use Rattle.ideal.specs.Layouts.{Sound};
+ghost use Rattle.ideal.specs.LevelOne.{boxOf};
 ghost use Rattle.soundness.specs.Parts.{tablesOf};
 ghost use Rattle.state.specs.Edits.{unchanged, EditsBy};
 ghost use Rattle.calls.specs.Entry.{resultOf, withUsed, cutWith, readyOn, soundOn, entryOn};
 use ideal::BoxRecord;
+use ideal::Profile;
 use reader::read_call;
 use record::Reading;
 use sound::box_sound;
@@ -58,8 +60,9 @@ pub fn is_ready(
     box_sound(held, log, escrow, heaps, log_values, escrow_values)
 }
 
-// One record on a box that is known to be sound, with buffers of their sizes.
+// One record in a profile on a box that is known to be sound, with buffers of their sizes.
 pub fn call_sound(
+    profile: Profile,
     held: BoxRecord,
     log: LogTable,
     escrow: EscrowTable,
@@ -75,14 +78,15 @@ pub fn call_sound(
         ⌝ }
     ensures { λ r. ⌜
         resultOf log escrow r (now (heaps .exit)) (now (shared .exit)) (now («log_values» .exit)) (now («escrow_values» .exit)) (now (output .exit))
-        ≡ soundOn (tablesOf held log escrow (now (heaps .entry)) (now (shared .entry)) (now («log_values» .entry)) (now («escrow_values» .entry)))
+        ≡ soundOn profile (tablesOf held log escrow (now (heaps .entry)) (now (shared .entry)) (now («log_values» .entry)) (now («escrow_values» .entry)))
         (now (bytes .entry)) (now (output .entry))
         ⌝ }
     ensures { λ r. ⌜ EditsBy held (r .held) (r .edits) ⌝ }
 {
     match read_call(bytes) {
         Reading::Whole { call, used } => {
-            let change = carry_out(
+            let change = carry_out_in(
+                profile,
                 held,
                 log,
                 escrow,
@@ -102,8 +106,9 @@ pub fn call_sound(
     }
 }
 
-// One record on any box, with buffers of any length.
+// One record in a profile on any box, with buffers of any length.
 pub fn call(
+    profile: Profile,
     held: BoxRecord,
     log: LogTable,
     escrow: EscrowTable,
@@ -116,7 +121,7 @@ pub fn call(
 ) -> Change
     ensures { λ r. ⌜
         resultOf log escrow r (now (heaps .exit)) (now (shared .exit)) (now («log_values» .exit)) (now («escrow_values» .exit)) (now (output .exit))
-        ≡ entryOn (tablesOf held log escrow (now (heaps .entry)) (now (shared .entry)) (now («log_values» .entry)) (now («escrow_values» .entry)))
+        ≡ entryOn (boxOf profile) (tablesOf held log escrow (now (heaps .entry)) (now (shared .entry)) (now («log_values» .entry)) (now («escrow_values» .entry)))
         (now (bytes .entry)) (now (output .entry))
         ⌝ }
     ensures { λ r. ⌜ EditsBy held (r .held) (r .edits) ⌝ }
@@ -134,6 +139,7 @@ pub fn call(
         return refuse(held, 15);
     }
     call_sound(
+        profile,
         held,
         log,
         escrow,

@@ -10,7 +10,7 @@ use Rattle.ideal.specs.State.{State, any}
 use Rattle.ideal.specs.Step.{Answer, refusal, number, shown, refusedAnswer, accepted}
 use Rattle.ideal.specs.Tables.{Tables, boxRecord, tables, stateOf}
 use Rattle.ideal.specs.Soundness.{sizesRight, sound}
-use Rattle.ideal.specs.Box.{Element, laid, unsound, callOn}
+use Rattle.ideal.specs.Box.{Element, laid, unsound, callOn, boxBy}
 use Rattle.ideal.specs.Layouts.{Sound}
 use Rattle.ideal.specs.Refusals.{oneOf}
 use Rattle.ideal.specs.Answers.{plainNumber, Answered, AcceptedAnswers}
@@ -33,7 +33,7 @@ accepted-of s e c used y z =
 
 -- only a sound box with buffers of their sizes accepts
 pub sound-of : (t : Tables) (e : Element) → callOn t e .answer .code ≡ 0 → Sound t (e .outputSize)
-unfolding callOn unsound refusedAnswer
+unfolding boxBy unsound refusedAnswer
 sound-of t e z =
     by-cases (sizesRight t (e .outputSize) && sound t)
     (λ b. record { sizes = and-left (sizesRight t (e .outputSize)) _ b; box = and-right (sizesRight t (e .outputSize)) _ b })

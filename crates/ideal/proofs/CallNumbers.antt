@@ -1,12 +1,11 @@
 -- A call's tests against the conditions on the host's tables, kind by kind. Assumes nothing.
-use Prim.Native.Nat.{_+_, _<_}
-use mathlib.Core.Path.{_≡_, refl, sym, ap, _∙_}
+use Prim.Native.Nat.{_+_}
+use mathlib.Core.Path.{_≡_, refl, ap, _∙_}
 use mathlib.Core.Bool.{not, _&&_, cond, Bool·not-not}
 use native.Mathlib.Omega.{arith}
 use native.Mathlib.Nat.{zero-add, add-zero}
 use lib.ListN.{length, getD}
 use lib.Dec.{eqb, ltb}
-use borrow.Author.Tests.{eqb-false, ltb-false}
 use Rattle.record.specs.Call.{Call, create, exit, heapWrite, heapRead, sharedWrite, sharedRead, attest, check, protect, retrieve, report, handOver, chain}
 use Rattle.record.specs.Write.{filled}
 use Rattle.ideal.specs.State.{State, caller, any}
@@ -14,12 +13,12 @@ use Rattle.ideal.specs.Step.{paired, full, absent, valueIn, firstHolding
 use Rattle.ideal.specs.Tables.{boxRecord, tables, stateOf}
 use Rattle.ideal.specs.Valid.{Valid}
 use Rattle.ideal.specs.Refusals.{ownBytes, oneOf, isAbsent, lengthIn, callConditions}
-use Rattle.lists.proofs.Bools.{by-cases, or-nil}
+use Rattle.lists.proofs.Bools.{or-nil}
 use Rattle.ideal.proofs.FoundRows.{pair-rows, found-row}
 use Rattle.ideal.proofs.Links.{chain-first}
 use Rattle.ideal.proofs.Conditions.{firstOf}
 use Rattle.ideal.proofs.Memory.{taken-at}
-use Rattle.ideal.proofs.OwnHeap.{own-bytes}
+use Rattle.ideal.proofs.OwnHeap.{own-tested}
 
 -- a state that is read back from its tables
 module _ (s : State) (back : stateOf (tables s) ≡ s) (valid : Valid s) where
@@ -34,16 +33,9 @@ module _ (s : State) (back : stateOf (tables s) ≡ s) (valid : Valid s) where
   call-first (sharedRead o n) = rw (add-zero n, or-nil (ltb 1024 (o + n)))
   call-first (attest o n) =
       rw (add-zero n, or-nil (ltb 256 (o + n)))
-      (by-cases (eqb (s .running) 16)
-      (λ e. rw e)
-      (λ e. rw e
-      (by-cases (ltb 256 (o + n))
-      (λ b. rw b)
-      (λ b.
-      let r : s .running < 16 = omega (arith, valid .runs, eqb-false (s .running) 16 e) in
-      let same = sym (own-bytes s valid r o n (ltb-false 256 (o + n) b)) in
-      let pair = ap (λ w. paired (caller s) w (s .log)) same ∙ pair-rows s back (caller s) (ownBytes (tables s) o n) in
-      rw b (ap (λ x. cond (not x && full (s .log) n) 13 0) pair)))))
+      (
+      own-tested s valid o n (λ w. cond (not (paired (caller s) w (s .log)) && full (s .log) n) 13 0)
+      ∙ ap (λ x. cond (eqb (s .running) 16) 4 (cond (ltb 256 (o + n)) 11 (cond (not x && full (s .log) n) 13 0))) (pair-rows s back (caller s) (ownBytes (tables s) o n)))
   call-first (check i g w) = refl
   call-first (protect i o n d) = rw (add-zero n, or-nil (ltb 256 (o + n)))
   call-first (retrieve i o h) =

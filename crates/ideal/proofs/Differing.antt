@@ -11,7 +11,7 @@ use Rattle.record.specs.Read.{whole, read, fromLittle, field, contents, bytesFi
 use Rattle.record.specs.Write.{write, only, recordOf, filled, recordIn}
 use Rattle.fnv.specs.Fnv.{little}
 use Rattle.ideal.specs.State.{State, Move, nothing, takes, activates, empties, writes, shares, logs, escrows, fresh, cleared, heapAt, caller, ownPart, any, find, bytesUsed}
-use Rattle.ideal.specs.Step.{accepted, settle, step as carry, onReading, stepOn, effect, refusal, firstHolding, tests, idle, vacant, beyond, full, isEscrowed, found, absent, valueIn, hasHandle, handleOf, next, freeFrom, freeHandle, paired, pairOf, protected, move, apply}
+use Rattle.ideal.specs.Step.{accepted, settle, stepBy, effect, refusal, firstHolding, tests, idle, vacant, beyond, full, isEscrowed, found, absent, valueIn, hasHandle, handleOf, next, freeFrom, freeHandle, paired, pairOf, protected, move, apply, readingBy, stepOnBy}
 use Rattle.ideal.specs.Tables.{boxRecord, tables, freshTables}
 use Rattle.ideal.specs.Box.{Element, laid, callOn, elementAt, tablesFrom, tablesAfter, tablesBefore, answerAt}
 use Rattle.ideal.specs.Refusals.{ownBytes}
@@ -41,7 +41,7 @@ after s (c ∷ cs) = after (effect s c) cs
 
 module _ {s : State} {c : Call} (v : Valid s) (r : read (write c) ≡ whole c (length (write c))) (p : refusal s c ≡ 0) where
   accepted-is : callOn (tables s) (element c) ≡ laid (accepted s c (length (write c)))
-  unfolding element stepElement stepOn onReading carry settle
+  unfolding element stepElement stepOnBy readingBy stepBy settle
   accepted-is = call-is s (element c) v ∙ rw (r, p)
 
   next-tables : callOn (tables s) (element c) .tables ≡ tables (effect s c)

@@ -7,7 +7,7 @@ use borrow.Author.Tests.{eqb-true, eq-eqb}
 use Rattle.record.specs.Call.{Call}
 use Rattle.record.specs.Read.{Reading, refused, whole, read}
 use Rattle.ideal.specs.State.{State}
-use Rattle.ideal.specs.Step.{refusedAnswer, refuse, accepted, refusal, settle, step, onReading, stepOn}
+use Rattle.ideal.specs.Step.{refusedAnswer, refuse, accepted, refusal, settle, readingBy, stepOnBy, stepBy}
 use Rattle.ideal.specs.Box.{Element}
 use Rattle.lists.proofs.Bools.{by-cases}
 use Rattle.ideal.proofs.Laid.{stepElement}
@@ -25,7 +25,7 @@ is-sized s e h = by-cases (eqb (e .outputSize) 1024) (λ t. eqb-true _ _ t) (λ 
 
 module _ (s : State) (e : Element) (c : Call) (used : ℕ) (reads : read (e .bytes) ≡ whole c used) where
   step-of-call : e .outputSize ≡ 1024 → stepElement s e ≡ settle (refusal s c) s c used
-  unfolding stepElement stepOn onReading step
+  unfolding stepElement stepOnBy readingBy stepBy
   step-of-call z = rw (eq-eqb _ _ z, reads)
 
   pub code-of-call : e .outputSize ≡ 1024 → stepElement s e .answer .code ≡ refusal s c
@@ -51,7 +51,7 @@ pub data Moved (s : State) (e : Element) : Type 0 where
   moves : (c : Call) (used : ℕ) → Accepted s e c used → Moved s e
 
 pub moved : (s : State) (e : Element) → Moved s e
-unfolding stepElement stepOn onReading settle refuse
+unfolding stepElement stepOnBy readingBy settle refuse
 moved s e = by-cases (eqb (e .outputSize) 1024) (λ t. onRead (read (e .bytes)) refl (eqb-true _ _ t)) (λ f. stays (rw f))
   where
     onCall : (c : Call) (used n : ℕ) → read (e .bytes) ≡ whole c used → e .outputSize ≡ 1024 → refusal s c ≡ n

@@ -29,11 +29,11 @@ use Rattle.ideal.proofs.Secret.{Related, preserved, related-fresh}
 
 -- ---- boxes whose calls keep two runs related
 
-record Keeps (box : Tables → Element → Result) : Type 0 where
-  both : {G : ℕ → Bool} {x y : Tables} {e f : Element} → Related G x y → AlikeAt G x e f → PremiseAt box G x y e
+pub record Keeps (box : Tables → Element → Result) : Type 0 where
+  pub both : {G : ℕ → Bool} {x y : Tables} {e f : Element} → Related G x y → AlikeAt G x e f → PremiseAt box G x y e
       → Stepped ownChain box G (Related G) x y e f
 
-secret : {box : Tables → Element → Result} → Keeps box → Secrecy box
+pub secret : {box : Tables → Element → Result} → Keeps box → Secrecy box
 secret {box} k G = secrecy-of ownChain box G (record { agrees = preserved G .agrees; both = k .both }) (related-fresh G)
 
 -- the premise speaks of the box's code alone
@@ -43,13 +43,13 @@ premise-as q p =
     record { attests = p .attests; protects = λ g i o n d u r out z. p .protects g i o n d u r out (q ∙ z) }
 
 -- what is the same in two runs
-record Common {A : Type 0} (of : Tables → Element → A) : Type 0 where
-  at : {G : ℕ → Bool} {x y : Tables} {e f : Element} → Related G x y → AlikeAt G x e f → of x e ≡ of y f
+pub record Common {A : Type 0} (of : Tables → Element → A) : Type 0 where
+  pub at : {G : ℕ → Bool} {x y : Tables} {e f : Element} → Related G x y → AlikeAt G x e f → of x e ≡ of y f
 
-keeps-call : Keeps callOn
+pub keeps-call : Keeps callOn
 keeps-call = record { both = λ {G} r a p. preserved G .both r a p }
 
-keeps-reply : (code number : ℕ) {used : Tables → Element → ℕ} → Common used → Keeps (λ t e. reply t code number (used t e))
+pub keeps-reply : (code number : ℕ) {used : Tables → Element → ℕ} → Common used → Keeps (λ t e. reply t code number (used t e))
 unfolding reply
 keeps-reply code number c =
     record {
@@ -69,7 +69,7 @@ keeps-answer m h =
     }
 
 -- a box that does at a call what another does
-as-other : {box other : Tables → Element → Result} {G : ℕ → Bool} {x y : Tables} {e f : Element} → Keeps other
+pub as-other : {box other : Tables → Element → Result} {G : ℕ → Bool} {x y : Tables} {e f : Element} → Keeps other
     → box x e ≡ other x e → box y f ≡ other y f → Related G x y → AlikeAt G x e f → PremiseAt box G x y e
     → Stepped ownChain box G (Related G) x y e f
 as-other k u v r a p =
@@ -103,7 +103,7 @@ unfolding usedIn
 same-used (same q) = ap (λ x. usedIn (read (x .bytes))) q
 same-used (other-bytes g h) = rw (h .reads₁, h .reads₂)
 
-common-used : Common (λ t e. usedIn (read (e .bytes)))
+pub common-used : Common (λ t e. usedIn (read (e .bytes)))
 common-used = record { at = λ r a. same-used a }
 
 kind-test : (kind : ℕ) → Common (λ t e. eqb (kindIn (read (e .bytes))) kind)

@@ -6,17 +6,16 @@ use lib.Dec.{eqb}
 use borrow.Author.Tests.{eqb-true, eqb-false}
 use Rattle.record.specs.Call.{Call, create, exit, heapWrite, heapRead, sharedWrite, sharedRead, attest, check, protect, retrieve, report, handOver, chain}
 use Rattle.record.specs.Read.{whole, read}
-use Rattle.ideal.specs.Step.{number, shown}
-use Rattle.ideal.specs.Tables.{Tables, tables}
+use Rattle.ideal.specs.Step.{number}
+use Rattle.ideal.specs.Tables.{Tables}
 use Rattle.ideal.specs.Box.{Element, Result, callOn}
 use Rattle.ideal.specs.Answers.{plainNumber, Answered}
-use Rattle.ideal.specs.Refusals.{numberAt}
 use Rattle.ideal.specs.OneCall.{leaves, countedNumber, shows, Done, OneCall, OneCallFixed}
 use Rattle.lists.proofs.Bools.{by-cases}
 use Rattle.ideal.proofs.Numbers.{each-number, refusals-alter-nothing}
 use Rattle.ideal.proofs.Accepts.{accepted-answers}
 use Rattle.ideal.proofs.FirstFree.{handle-is-first-free}
-use Rattle.ideal.proofs.OneAnswer.{one-free, same-used, same-answer, same-result, accepted-reads}
+use Rattle.ideal.proofs.OneAnswer.{one-free, same-answer, same-result, same-refusal, accepted-reads}
 use Rattle.ideal.proofs.OneCalls.{does}
 
 module _ (box : Tables → Element → Result) (one : OneCall box) (t : Tables) (e : Element) where
@@ -30,12 +29,7 @@ module _ (box : Tables → Element → Result) (one : OneCall box) (t : Tables) 
   code-is = let n = s .answer .code in one .numbers t e n .1 (each-number t e n .0 refl)
 
   when-refused : (s .answer .code ≡ 0 → ⊥) → r ≡ s
-  when-refused n =
-      let a = one .alters-nothing t e (λ z. n (sym code-is ∙ z)) in
-      let b = refusals-alter-nothing t e n in
-      let u = rw code-is at (a .used) in
-      same-result _ _ (a .tables ∙ sym (b .tables))
-      (same-answer _ _ code-is (a .number ∙ ap (numberAt (e .bytes)) code-is ∙ sym (b .number)) (same-used (e .bytes) _ _ _ u (b .used)) (a .shown ∙ sym (b .shown)))
+  when-refused n = same-refusal code-is (one .alters-nothing t e (λ z. n (sym code-is ∙ z))) (refusals-alter-nothing t e n)
 
   module _ (c : Call) (used : ℕ) (reads : read (e .bytes) ≡ whole c used) (z : s .answer .code ≡ 0) where
     answered-r : Answered t c used (r .answer)

@@ -1,7 +1,7 @@
 -- A box that meets demands 1 and 2 runs from a fresh box as the definition does. By induction over the calls: the number of
 -- each is fixed by its conditions, a refusal alters nothing, and an accepted call's answer and event are fixed by the tables
 -- and the calls before it; what it leaves is then what the past says. Assumes nothing.
-use Prim.Native.Nat.{ℕ, zero, suc, _+_, _≤_, _<_}
+use Prim.Native.Nat.{ℕ, zero, suc, _≤_, _<_}
 use mathlib.Core.Path.{_≡_, refl, sym, ap, _∙_, subst}
 use mathlib.Core.Bool.{false, cond}
 use mathlib.Core.List.{List, [], _∷_, _++_}
@@ -34,7 +34,7 @@ use Rattle.ideal.proofs.Retrieves.{handed}
 use Rattle.ideal.proofs.Demanded.{demands}
 use Rattle.ideal.proofs.OnePast.{one-past}
 
-abbrev Box : Type 0
+abbrev pub Box : Type 0
 Box = Tables → Element → Result
 
 -- ---- a run, one call more
@@ -97,7 +97,7 @@ same-event (chain a i y v) t w x n f = refl
 
 -- ---- what a refused and an accepted call add to the past
 
-refused-adds : (t : Tables) (r : Result) (q : Reading) (past : List Move) → (r .answer .code ≡ 0 → ⊥) → added t r q past ≡ past
+pub refused-adds : (t : Tables) (r : Result) (q : Reading) (past : List Move) → (r .answer .code ≡ 0 → ⊥) → added t r q past ≡ past
 unfolding added
 refused-adds t r (refused code number) past h = refl
 refused-adds t r (whole c used) past h = rw (ne-eqb (r .answer .code) 0 h)
@@ -107,7 +107,7 @@ accepted-adds : (t : Tables) (r : Result) (c : Call) (used : ℕ) (past : List M
 unfolding added
 accepted-adds t r c used past h = rw (eq-eqb (r .answer .code) 0 h)
 
--- ---- calls before the one at an index, of two boxes
+-- ---- calls before the one at an index, of two boxes and two lists
 
 -- the same code, and the same answer where it is accepted
 pub record Alike (x y : Answer) : Type 0 where
@@ -117,29 +117,32 @@ pub record Alike (x y : Answer) : Type 0 where
 alike-back : {x y : Answer} → Alike x y → Alike y x
 alike-back h = record { code = sym (h .code); accepted = λ z. sym (h .accepted (sym (h .code) ∙ z)) }
 
-module _ (a b : Box) (es : List Element) (j : ℕ) (t : tablesBefore a es j ≡ tablesBefore b es j)
-    (h : Alike (answerAt a es j) (answerAt b es j)) where
-  logs-too : {i : ℕ} {v : List ℕ} {g : Tag} → LogsAt a es i v g j → LogsAt b es i v g j
+pub alike-same : {x y : Answer} → x ≡ y → Alike x y
+alike-same q = record { code = ap (λ x. x .code) q; accepted = λ z. q }
+
+module _ (a b : Box) (es fs : List Element) (j : ℕ) (e : elementAt es j ≡ elementAt fs j) (t : tablesBefore a es j ≡ tablesBefore b fs j)
+    (h : Alike (answerAt a es j) (answerAt b fs j)) where
+  pub logs-too : {i : ℕ} {v : List ℕ} {g : Tag} → LogsAt a es i v g j → LogsAt b fs i v g j
   logs-too l =
       record {
         offset = l .offset;
         size = l .size;
         used = l .used;
-        reads = l .reads;
+        reads = sym (ap (λ y. read (y .bytes)) e) ∙ l .reads;
         accepts = sym (h .code) ∙ l .accepts;
         by = sym (ap (λ y. callerIn y) t) ∙ l .by;
         bytes = sym (ap (λ y. ownBytes y (l .offset) (l .size)) t) ∙ l .bytes;
         gets = sym (ap (λ y. y .number) (h .accepted (sym (h .code) ∙ l .accepts))) ∙ l .gets;
       }
 
-  protects-too : {i r : ℕ} {h : Handle} {v : List ℕ} → ProtectsAt a es i r h v j → ProtectsAt b es i r h v j
+  pub protects-too : {i r : ℕ} {h : Handle} {v : List ℕ} → ProtectsAt a es i r h v j → ProtectsAt b fs i r h v j
   protects-too p =
       record {
         offset = p .offset;
         size = p .size;
         draw = p .draw;
         used = p .used;
-        reads = p .reads;
+        reads = sym (ap (λ y. read (y .bytes)) e) ∙ p .reads;
         accepts = sym (h .code) ∙ p .accepts;
         by = sym (ap (λ y. callerIn y) t) ∙ p .by;
         bytes = sym (ap (λ y. ownBytes y (p .offset) (p .size)) t) ∙ p .bytes;
@@ -162,13 +165,13 @@ module _ {a b : Box} {es : List Element} {k : ℕ} (h : SameTo a b es k) where
   logged-too x =
       let j = x .index in
       let l = x .before in
-      record { index = j; before = l; there = logs-too a b es j (h .tables j (omega arith)) (h .answers j l) (x .there) }
+      record { index = j; before = l; there = logs-too a b es es j refl (h .tables j (omega arith)) (h .answers j l) (x .there) }
 
   protected-too : {i : ℕ} {g : Handle} {v : List ℕ} → ProtectedBefore a es k i g v → ProtectedBefore b es k i g v
   protected-too {i} {g} {v} x =
       let j = x .index in
       let l = x .before in
-      let p = protects-too a b es j (h .tables j (omega arith)) (h .answers j l) (x .there) in
+      let p = protects-too a b es es j refl (h .tables j (omega arith)) (h .answers j l) (x .there) in
       let q = ap (λ y. callerIn y) (h .tables k (omega arith)) in
       record { index = j; before = l; there = subst (λ r. ProtectsAt b es i r g v j) q p }
 

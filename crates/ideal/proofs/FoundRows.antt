@@ -9,7 +9,7 @@ use Rattle.fnv.specs.declared.Tag.{Tag}
 use Rattle.record.specs.declared.Handle.{Handle}
 use Rattle.ideal.specs.declared.LogRow.{LogRow}
 use Rattle.ideal.specs.declared.EscrowRow.{EscrowRow}
-use Rattle.ideal.specs.State.{Entry, Escrowed, State, caller, any, find}
+use Rattle.ideal.specs.State.{Entry, Logged, Escrowed, State, caller, any, find}
 use Rattle.ideal.specs.Step.{isPair, isLogged, paired, logged, isEscrowed, found, valueIn}
 use Rattle.ideal.specs.Tables.{RowsOf, logTable, escrowTable, rowsFrom, entryOf, entriesOf, boxRecord, tables, usedLog, usedEscrow, stateOf}
 use Rattle.ideal.specs.Refusals.{isRow, holdsPair, bytesIn, rowFor, isLogRow}
@@ -33,11 +33,14 @@ module _ {Row Key : Type 0} (t : RowsOf Row Key) where
 
 -- a state that is read back from its tables
 module _ (s : State) (back : stateOf (tables s) ≡ s) where
+  -- what is told of a log entry is told of a row and its value bytes
+  pub log-rows : (p : Logged → Bool) → any p (s .log) ≡ any (λ r. p (entryOf logTable (tables s .logValues) r)) (usedLog (tables s))
+  unfolding stateOf
+  log-rows p = ap (λ x. any p (x .log)) (sym back) ∙ any-entries logTable p (tables s .logValues) (usedLog (tables s))
+
   pub pair-rows : (i : ℕ) (w : List ℕ) → paired i w (s .log) ≡ any (holdsPair (tables s .logValues) i w) (usedLog (tables s))
-  unfolding paired isPair holdsPair stateOf
-  pair-rows i w =
-      ap (λ x. any (isPair i w) (x .log)) (sym back)
-      ∙ any-entries logTable (isPair i w) (tables s .logValues) (usedLog (tables s))
+  unfolding paired isPair holdsPair
+  pair-rows i w = log-rows (isPair i w)
 
   -- what is told of the row found and of the entry found agrees
   pub found-row : {B : Type 0} (f : Option EscrowRow → B) (g : Option Escrowed → B) → f none ≡ g none

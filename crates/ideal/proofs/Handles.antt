@@ -13,10 +13,10 @@ use Rattle.record.specs.declared.Draw.{Draw}
 use Rattle.record.specs.Call.{Call, protect}
 use Rattle.record.specs.Read.{Reading, refused, whole, read}
 use Rattle.ideal.specs.State.{State, Move, nothing, takes, activates, empties, writes, shares, logs, escrows, any}
-use Rattle.ideal.specs.Step.{hasHandle, protected, move, apply, effect, number, refuse, accepted, settle, refusal, step, onReading, stepOn}
+use Rattle.ideal.specs.Step.{hasHandle, protected, move, apply, effect, number, refuse, accepted, settle, refusal, onReading, readingBy, stepOnBy, stepBy}
 use Rattle.ideal.specs.Tables.{Tables, boxRecord, tables, stateOf, freshTables}
 use Rattle.ideal.specs.Soundness.{sizesRight, sound}
-use Rattle.ideal.specs.Box.{Element, laid, unsound, callOn, elementAt, tablesFrom, tablesAfter, tablesBefore, answerAt}
+use Rattle.ideal.specs.Box.{Element, laid, unsound, callOn, elementAt, tablesFrom, tablesAfter, tablesBefore, answerAt, boxBy}
 use Rattle.ideal.specs.Valid.{Valid}
 use Rattle.ideal.specs.Accuracy.{Earlier, ProtectsAt, HandleOnce}
 use Rattle.lists.proofs.Bools.{by-cases, clash, or-true-left, or-true-right}
@@ -87,13 +87,13 @@ module _ (h : Handle) where
 
   stays-reading : (s : State) (r : Reading) → any (hasHandle h) (s .escrow) ≡ true
       → any (hasHandle h) (onReading s r .state .escrow) ≡ true
-  unfolding onReading step refuse
+  unfolding readingBy stepBy refuse
   stays-reading s (refused code number) u = u
   stays-reading s (whole c used) u = stays-settle (refusal s c) s c used u
 
   stays-call : (t : Tables) (e : Element) → any (hasHandle h) (stateOf t .escrow) ≡ true
       → any (hasHandle h) (stateOf (callOn t e .tables) .escrow) ≡ true
-  unfolding callOn laid unsound stepOn
+  unfolding boxBy laid unsound stepOnBy
   stays-call t e u =
       by-cases (sizesRight t (e .outputSize) && sound t)
       (λ x. rw (x, escrow-back (onReading (stateOf t) (read (e .bytes)) .state)) (stays-reading (stateOf t) (read (e .bytes)) u))

@@ -11,7 +11,7 @@ use Rattle.record.specs.declared.Handle.{Handle}
 use Rattle.record.specs.Call.{Call, create, exit, heapWrite, heapRead, sharedWrite, sharedRead, attest, check, protect, retrieve, report, handOver, chain}
 use Rattle.record.specs.Read.{Reading, refused, whole, read}
 use Rattle.ideal.specs.State.{State, Move, writes, fresh, heapAt, ownPart, bytesUsed}
-use Rattle.ideal.specs.Step.{found, valueIn, tests, refusal, beyond, protected, move, apply, effect, number, shown, refuse, refusedAnswer, accepted, settle, step, onReading, stepOn}
+use Rattle.ideal.specs.Step.{found, valueIn, tests, refusal, beyond, protected, move, apply, effect, number, shown, refuse, refusedAnswer, accepted, settle, onReading, readingBy, stepOnBy, stepBy}
 use Rattle.ideal.specs.Tables.{Tables, tables, boxRecord, freshTables}
 use Rattle.ideal.specs.Box.{Element, laid, callOn, elementAt, tablesFrom, tablesAfter, tablesBefore, answerAt}
 use Rattle.ideal.specs.Refusals.{ownBytes}
@@ -102,7 +102,7 @@ module _ (s : State) (past : List Move) (k : Valid s) (h : StateAsPast s past) w
   settled (suc n) c used e = rw (eqb·suc-zero n) h
 
   on-reading : (r : Reading) → StateAsPast (onReading s r .state) (added (tables s) (laid (onReading s r)) r past)
-  unfolding onReading step refuse added
+  unfolding readingBy stepBy refuse added
   on-reading (refused code number) = h
   on-reading (whole c used) = settled (refusal s c) c used refl
 
@@ -112,7 +112,7 @@ module _ (s : State) (past : List Move) (k : Valid s) (h : StateAsPast s past) w
   on-narrow (whole c used) = h
 
   step-kept : (e : Element) → StateAsPast (stepElement s e .state) (added (tables s) (laid (stepElement s e)) (read (e .bytes)) past)
-  unfolding stepElement stepOn refuse
+  unfolding stepElement stepOnBy refuse
   step-kept e =
       by-cases (eqb (e .outputSize) 1024)
       (λ z. rw z (on-reading (read (e .bytes))))

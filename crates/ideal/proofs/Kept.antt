@@ -13,7 +13,7 @@ use Rattle.fnv.specs.Fnv.{tagOf}
 use Rattle.record.specs.Call.{Call}
 use Rattle.record.specs.Read.{Reading, refused, whole, read}
 use Rattle.ideal.specs.State.{Entry, Logged, Escrowed, State, Move, empties, cleared, fresh, heapAt, caller, ownPart, any, every, sameBytes, bytesUsed}
-use Rattle.ideal.specs.Step.{isPair, paired, pairOf, full, withPair, hasHandle, refusal, protected, apply, effect, refuse, accepted, settle, step, onReading, stepOn}
+use Rattle.ideal.specs.Step.{isPair, paired, pairOf, full, withPair, hasHandle, refusal, protected, apply, effect, refuse, accepted, settle, onReading, stepOn, readingBy, stepOnBy, stepBy}
 use Rattle.ideal.specs.Tables.{tables, stateOf}
 use Rattle.ideal.specs.Soundness.{differ, samePair, sameHandle, rightTag}
 use Rattle.ideal.specs.Box.{Element, laid, callOn}
@@ -206,12 +206,12 @@ valid-settle zero s c used k r = valid-effect s c k r
 valid-settle (suc n) s c used k r = k
 
 valid-reading : (s : State) (r : Reading) → Valid s → Valid (onReading s r .state)
-unfolding onReading step refuse
+unfolding readingBy stepBy refuse
 valid-reading s (refused code number) k = k
 valid-reading s (whole c used) k = valid-settle (refusal s c) s c used k refl
 
 pub valid-on : (s : State) (bytes : List ℕ) → Valid s → Valid (stepOn s bytes .state)
-unfolding stepOn
+unfolding stepOnBy
 valid-on s bytes k = valid-reading s (read bytes) k
 
 pub valid-step : (s : State) (e : Element) → Valid s → Valid (stepElement s e .state)
@@ -223,7 +223,7 @@ valid-step s e k = by-cases (eqb (e .outputSize) 1024) (λ x. rw x (valid-on s (
 pub states-agree : StatesAgree
 states-agree t n bytes h = state-tables (stepOn (stateOf t) bytes .state) (valid-on (stateOf t) bytes (valid-sound t n h))
 
-pub stays-sound : StaysSound
+pub stays-sound : StaysSound callOn
 unfolding laid
 stays-sound t e h =
     let k = valid-sound t (e .outputSize) h in

@@ -14,7 +14,7 @@ use Rattle.ideal.specs.State.{Entry, State, cleared, fresh, every, bytes
 use Rattle.ideal.specs.Step.{Stepped, refuse, stepOn}
 use Rattle.ideal.specs.Tables.{Tables, RowsOf, logTable, escrowTable, padded, valuesOf, rowsFrom, rowsOf, entriesOf, takenMap, flat, chunks, boxRecord, tables, usedLog, usedEscrow, stateOf, freshTables}
 use Rattle.ideal.specs.Soundness.{sizesRight, runningTaken, short, hasIdentity, hasIdentities, rightTag, differ, samePair, sameHandle, sound}
-use Rattle.ideal.specs.Box.{Element, laid, callOn, unsound}
+use Rattle.ideal.specs.Box.{Element, laid, callOn, unsound, boxBy}
 use Rattle.ideal.specs.Layouts.{Sound, LayoutsAgree}
 use Rattle.lists.proofs.Bools.{by-cases, and-left, and-right, and-true, or-true-left, or-true-right, not-is}
 use Rattle.ideal.specs.Valid.{Valid}
@@ -205,16 +205,20 @@ fresh-tables = λ i.
 unfoldable pub stepElement : State → Element → Stepped
 stepElement s e = cond (eqb (e .outputSize) 1024) (stepOn s (e .bytes)) (refuse s 15 0 0)
 
-pub call-is : (s : State) (e : Element) → Valid s → callOn (tables s) e ≡ laid (stepElement s e)
-unfolding callOn stepElement laid unsound refuse
-call-is s e k =
-    let n = e .outputSize in
+-- only the output buffer can be of another size
+pub ready-is : (s : State) (n : ℕ) → Valid s → sizesRight (tables s) n && sound (tables s) ≡ eqb n 1024
+ready-is s n k =
     let g = sound-tables s k in
     by-cases (eqb n 1024)
     (λ x.
     let z : sizesRight (tables s) n ≡ true = rw (eqb-true n 1024 x) (g .sizes) in
-    rw (x, z, g .box, state-tables s k))
+    rw (x, z, g .box))
     (λ x.
     let z : sizesRight (tables s) n ≡ false =
     by-cases (sizesRight (tables s) n) (λ y. absurd (eqb-false n 1024 x (output-size (tables s) n y))) (λ y. y) in
     rw (x, z))
+
+pub call-is : (s : State) (e : Element) → Valid s → callOn (tables s) e ≡ laid (stepElement s e)
+unfolding boxBy stepElement laid unsound refuse
+call-is s e k =
+    rw (ready-is s (e .outputSize) k, state-tables s k) (by-cases (eqb (e .outputSize) 1024) (λ x. rw x) (λ x. rw x))

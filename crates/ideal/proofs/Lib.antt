@@ -1,6 +1,7 @@
 pub mod Lists
 pub mod Unique
 pub mod Passing
+pub mod OwnRefusals
 pub mod Conditions
 pub mod ReaderNumbers
 pub mod MissingBytes
@@ -57,3 +58,14 @@ pub mod Steered
 pub mod Differing
 pub mod Exempted
 pub mod Examined
+pub mod Yields
+pub mod LevelOneCalls
+pub mod LevelOneNumbers
+pub mod LevelOneThree
+pub mod LevelOneFixed
+pub mod LevelOneSecret
+pub mod StandIns
+pub mod LevelOneHistory
+pub mod LevelOneAttests
+pub mod LevelOneLow
+pub mod LevelOneDemanded

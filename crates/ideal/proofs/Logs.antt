@@ -40,12 +40,12 @@ others (does-log a) = inr (attests a)
 others (does-escrow a) = inl refl
 
 module _ (i : ℕ) (g : Tag) (v : List ℕ) where
-  record IsLogged (r : Logged) : Type 0 where
-    identity : r .key .identity ≡ i
-    tag : r .key .tag .0 ≡ g .0
-    value : r .value ≡ v
+  pub record IsLogged (r : Logged) : Type 0 where
+    pub identity : r .key .identity ≡ i
+    pub tag : r .key .tag .0 ≡ g .0
+    pub value : r .value ≡ v
 
-  is-logged : (r : Logged) → isLogged i g v r ≡ true → IsLogged r
+  pub is-logged : (r : Logged) → isLogged i g v r ≡ true → IsLogged r
   unfolding isLogged
   is-logged r h =
       let t = and-right (eqb (r .key .identity) i) _ h in
@@ -55,7 +55,7 @@ module _ (i : ℕ) (g : Tag) (v : List ℕ) where
         value = same-bytes _ _ (and-right (eqb (r .key .tag .0) (g .0)) _ t);
       }
 
-  logged-is : (r : Logged) → IsLogged r → isLogged i g v r ≡ true
+  pub logged-is : (r : Logged) → IsLogged r → isLogged i g v r ≡ true
   unfolding isLogged
   logged-is r h = and-true _ _ (eq-eqb _ _ (h .identity)) (and-true _ _ (eq-eqb _ _ (h .tag)) (rw (h .value) (same-bytes-refl v)))
 

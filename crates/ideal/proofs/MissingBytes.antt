@@ -15,7 +15,7 @@ use Rattle.ideal.specs.State.{part, any, every}
 use Rattle.ideal.specs.Tables.{Tables}
 use Rattle.ideal.specs.Soundness.{sizesRight, sound}
 use Rattle.ideal.specs.Box.{Element, Result, callOn}
-use Rattle.ideal.specs.Refusals.{oneOf, width, ends, cutField, passed, wholeFields, missing, numberAt, isMap, readerConditions, callConditions, onCall, conditions, followed, EachNumber, RefusalsAlterNothing, NumberOnlyWithOne, MissingIsExact}
+use Rattle.ideal.specs.Refusals.{oneOf, width, ends, cutField, passed, wholeFields, missing, numberAt, isMap, readerConditions, callConditions, onCall, conditions, followed, EachNumber, RefusalsAlterNothing, NumberOnlyWithOne, MissingIsExact, conditionsBy}
 use Rattle.lists.proofs.Bools.{by-cases, or-false-left, or-false-right}
 use Rattle.ideal.proofs.Conditions.{firstOf, first-of}
 use Rattle.ideal.proofs.ReaderNumbers.{upTo, missing-is}
@@ -169,7 +169,7 @@ module _ (t : Tables) (size : ℕ) where
       firstOf (conditions t (given bs))
       ≡ tested (sizesRight t size && sound t) (stands map 0) (ltb 15 kind || oneOf (0 ∷ 2 ∷ 3 ∷ []) kind) (isMap map (mapOf kind)) (cutField bs)
       (firstOf (onCall t (read bs)))
-  unfolding conditions readerConditions firstOf tested
+  unfolding conditionsBy readerConditions firstOf tested
   first-tested map kind rest =
       let long = length rest in
       rw (eqb·suc-zero (suc long), eqb·suc-suc (suc long) 0, eqb·suc-zero long)

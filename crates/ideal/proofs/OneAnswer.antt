@@ -10,10 +10,10 @@ use Rattle.record.specs.declared.Handle.{Handle}
 use Rattle.record.specs.Call.{Call}
 use Rattle.record.specs.Read.{Reading, refused, whole, read}
 use Rattle.ideal.specs.State.{any}
-use Rattle.ideal.specs.Step.{Answer, refuse, refusedAnswer, onReading, stepOn}
+use Rattle.ideal.specs.Step.{Answer, refuse, refusedAnswer, readingBy, stepOnBy}
 use Rattle.ideal.specs.Tables.{Tables}
-use Rattle.ideal.specs.Box.{Element, Result, laid, callOn}
-use Rattle.ideal.specs.Refusals.{oneOf, UsedAt, unread, was-read}
+use Rattle.ideal.specs.Box.{Element, Result, laid, callOn, boxBy}
+use Rattle.ideal.specs.Refusals.{oneOf, UsedAt, unread, was-read, numberAt, Refused}
 use Rattle.ideal.specs.Accuracy.{candidate, handleUsed, FirstFree}
 use Rattle.lists.proofs.Bools.{by-cases, clash}
 use Rattle.ideal.proofs.Numbers.{read-refused}
@@ -49,6 +49,14 @@ same-answer a b c n u s = λ i. record { code = c i; number = n i; used = u i; s
 pub same-result : (r s : Result) → r .tables ≡ s .tables → r .answer ≡ s .answer → r ≡ s
 same-result r s t a = λ i. record { tables = t i; answer = a i }
 
+-- a refusal is its code
+pub same-refusal : {t : Tables} {e : Element} {r s : Result} → r .answer .code ≡ s .answer .code → Refused t e r → Refused t e s
+    → r ≡ s
+same-refusal {e = e} q a b =
+    let u = rw q at (a .used) in
+    same-result _ _ (a .tables ∙ sym (b .tables))
+    (same-answer _ _ q (a .number ∙ ap (numberAt (e .bytes)) q ∙ sym (b .number)) (same-used (e .bytes) _ _ _ u (b .used)) (a .shown ∙ sym (b .shown)))
+
 -- what is accepted is a whole record
 pub record Whole (bs : List ℕ) : Type 0 where
   pub call : Call
@@ -56,7 +64,7 @@ pub record Whole (bs : List ℕ) : Type 0 where
   pub reads : read bs ≡ whole call used
 
 pub accepted-reads : (t : Tables) (e : Element) → callOn t e .answer .code ≡ 0 → Whole (e .bytes)
-unfolding callOn laid stepOn onReading refuse refusedAnswer oneOf any
+unfolding boxBy laid stepOnBy readingBy refuse refusedAnswer oneOf any
 accepted-reads t e z = at (read (e .bytes)) refl
   where
     at : (r : Reading) → read (e .bytes) ≡ r → Whole (e .bytes)

@@ -1,17 +1,21 @@
 -- The running place's heap, in the state and in the lent bytes. Assumes nothing.
 use Prim.Native.Nat.{ℕ, zero, suc, _+_, _*_, _≤_, _<_}
-use mathlib.Core.Path.{_≡_, refl, ap}
+use mathlib.Core.Path.{_≡_, refl, sym, ap}
+use mathlib.Core.Bool.{cond}
 use mathlib.Core.List.{List, [], _∷_, _++_}
 use native.Mathlib.Omega.{arith}
 use native.Mathlib.Nat.{zero-add, suc-add, add-suc}
 use lib.ListN.{length, getD, set, length-set}
 use lib.Seq.{sets, set-append-left, getD-set-same}
+use lib.Dec.{eqb, ltb}
+use borrow.Author.Tests.{eqb-false, ltb-false}
 use Rattle.ideal.specs.State.{State, writes, heapAt, ownPart}
 use Rattle.ideal.specs.Step.{apply}
 use Rattle.ideal.specs.Tables.{tables, boxRecord, flat}
 use Rattle.ideal.specs.Refusals.{ownBytes}
 use Rattle.ideal.specs.Accuracy.{withOwnBytes}
 use Rattle.ideal.specs.Valid.{Valid}
+use Rattle.lists.proofs.Bools.{by-cases}
 use Rattle.ideal.proofs.Heaps.{Sized}
 use Rattle.ideal.proofs.Memory.{part-sets, flat-part}
 
@@ -63,3 +67,17 @@ module _ (s : State) (valid : Valid s) (runs : s .running < 16) where
   written-stands o v f =
       rw (getD-set-same (s .heaps) (s .running) (sets (heapAt s (s .running)) o v) [] (omega (arith, valid .heaps)))
       (part-sets (heapAt s (s .running)) o v (omega (arith, valid .sizes (s .running) runs)))
+
+-- after 4 and 11, what is said of a part of the caller's heap may be said of the lent bytes
+pub own-tested : (s : State) → Valid s → (o n : ℕ) (f : List ℕ → ℕ)
+    → cond (eqb (s .running) 16) 4 (cond (ltb 256 (o + n)) 11 (f (ownPart s o n)))
+    ≡ cond (eqb (s .running) 16) 4 (cond (ltb 256 (o + n)) 11 (f (ownBytes (tables s) o n)))
+own-tested s valid o n f =
+    by-cases (eqb (s .running) 16)
+    (λ e. rw e)
+    (λ e.
+    by-cases (ltb 256 (o + n))
+    (λ b. rw b)
+    (λ b.
+    let runs : s .running < 16 = omega (arith, valid .runs, eqb-false (s .running) 16 e) in
+    ap (λ w. cond (eqb (s .running) 16) 4 (cond (ltb 256 (o + n)) 11 (f w))) (sym (own-bytes s valid runs o n (ltb-false 256 (o + n) b)))))

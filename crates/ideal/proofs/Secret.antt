@@ -14,7 +14,7 @@ use Rattle.record.specs.Call.{Call, create, exit, heapWrite, heapRead, sharedWr
 use Rattle.record.specs.Read.{Reading, refused, whole, read}
 use Rattle.record.specs.Write.{filled}
 use Rattle.ideal.specs.State.{EscrowKey, Escrowed, State, fresh, identityAt, caller, part, ownPart}
-use Rattle.ideal.specs.Step.{Link, pairOf, found, absent, follow, linksFrom, idle, vacant, beyond, firstHolding, tests, refusal, protected, move, apply, effect, number, shown, Answer, Stepped as Outcome, refusedAnswer, refuse, accepted, settle, step, onReading, stepOn}
+use Rattle.ideal.specs.Step.{Link, pairOf, found, absent, follow, linksFrom, idle, vacant, beyond, firstHolding, tests, refusal, protected, move, apply, effect, number, shown, Answer, Stepped as Outcome, refusedAnswer, refuse, accepted, settle, step, onReading, readingBy, stepOnBy, stepBy}
 use Rattle.ideal.specs.Tables.{Tables, escrowTable, entryOf, rowsFrom, rowsOf, boxRecord, tables, freshTables}
 use Rattle.ideal.specs.Box.{Element, laid, callOn}
 use Rattle.ideal.specs.Refusals.{ownBytes}
@@ -56,7 +56,7 @@ open-chain true o = absurd (false≢true (sym o))
 open-chain false o = refl
 
 module _ (z : Secrets) {s t : State} (k : SameBut z s t) where
-  known-attest : (o n : ℕ) → NoneTold z s t (attest o n) → beyond 256 o n ≡ false → ownPart s o n ≡ ownPart t o n
+  pub known-attest : (o n : ℕ) → NoneTold z s t (attest o n) → beyond 256 o n ≡ false → ownPart s o n ≡ ownPart t o n
   unfolding beyond
   known-attest o n a e =
       by-cases (z .heap (s .running) (caller s)) (λ g. a .attests g o n refl (ltb-false 256 (o + n) e)) (λ g. same-own z k o n g)
@@ -236,21 +236,21 @@ module _ (z : Secrets) {s t : State} (k : SameBut z s t) where
   both-still n m u (other-call p o v w g l) x = absurd (false≢true (and-right (z .heap (s .running) (caller s)) _ x))
 
   both-step : {c d : Call} (u : ℕ) → AlikeCalls z s c d → NoneTold z s t c → Both z s (whole c u) (step s c u) (step t d u)
-  unfolding step
+  unfolding stepBy
   both-step {c} {d} u a h =
       by-cases (excused z s c)
       (λ x. both-still (refusal s c) (refusal t d) u a x)
       (λ o. rw (← same-in-both z k a h .refuses o) (both-settle (refusal s c) u a h o refl))
 
   both-reading : (r : Reading) → ((c : Call) (u : ℕ) → r ≡ whole c u → NoneTold z s t c) → Both z s r (onReading s r) (onReading t r)
-  unfolding onReading
+  unfolding readingBy
   both-reading (refused code number) h = both-refuse (refused code number) code number 0
   both-reading (whole c u) h = both-step u (same-call c) (h c u refl)
 
   module _ (e : Element)
       (h : eqb (e .outputSize) 1024 ≡ true → (c : Call) (u : ℕ) → read (e .bytes) ≡ whole c u → NoneTold z s t c) where
     pub both-element : Both z s (read (e .bytes)) (stepElement s e) (stepElement t e)
-    unfolding stepElement stepOn
+    unfolding stepElement stepOnBy
     both-element =
         cond-both (λ o p. Both z s (read (e .bytes)) o p) (eqb (e .outputSize) 1024) (λ x. both-reading (read (e .bytes)) (h x))
         (λ _. both-refuse _ 15 0 0)
@@ -259,7 +259,7 @@ module _ (z : Secrets) {s t : State} (k : SameBut z s t) where
     pub both-calls : (f : Element) {c d : Call} (u : ℕ) → AlikeCalls z s c d → e .outputSize ≡ f .outputSize
         → read (e .bytes) ≡ whole c u → read (f .bytes) ≡ whole d u
         → Both z s (read (e .bytes)) (stepElement s e) (stepElement t f)
-    unfolding stepElement stepOn onReading
+    unfolding stepElement stepOnBy readingBy
     both-calls f {c} u a n q r =
         rw (← n, q, r)
         (cond-both (λ o p. Both z s (whole c u) o p) (eqb (e .outputSize) 1024) (λ x. both-step u a (h x _ u q))
@@ -301,7 +301,7 @@ runs-below G s v g =
 
 pub accepted-code : (s : State) (e : Element) (c : Call) (u : ℕ) → Valid s → eqb (e .outputSize) 1024 ≡ true
     → read (e .bytes) ≡ whole c u → refusal s c ≡ 0 → callOn (tables s) e .answer .code ≡ 0
-unfolding laid stepElement stepOn onReading step settle accepted
+unfolding laid stepElement stepOnBy readingBy stepBy settle accepted
 accepted-code s e c u v x y r = ap (λ z. z .answer .code) (call-is s e v) ∙ rw (x, y, r)
 
 module _ (G : ℕ → Bool) {s t : State} (k : SameBut (held G) s t) (v : Valid s) (w : Valid t) (e : Element)
@@ -313,7 +313,7 @@ module _ (G : ℕ → Bool) {s t : State} (k : SameBut (held G) s t) (v : Valid 
       let a = k .running in
       sym (own-bytes s v r o n h) ∙ q ∙ own-bytes t w (omega arith) o n h
 
-  told : eqb (e .outputSize) 1024 ≡ true → (c : Call) (u : ℕ) → read (e .bytes) ≡ whole c u → NoneTold (held G) s t c
+  pub told : eqb (e .outputSize) 1024 ≡ true → (c : Call) (u : ℕ) → read (e .bytes) ≡ whole c u → NoneTold (held G) s t c
   unfolding groupRuns tables boxRecord protected
   told x c u y =
       record {

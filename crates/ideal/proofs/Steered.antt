@@ -14,7 +14,7 @@ use Rattle.record.specs.Layout.{stands, kinds, among, kindOf}
 use Rattle.record.specs.Read.{whole, read, fromLittle, field, contents, bytesField, fields, readFields, readKind, afterMap}
 use Rattle.record.specs.Write.{write, only, recordOf, filled, recordIn}
 use Rattle.ideal.specs.State.{fresh, cleared, ownPart, any, bytesUsed}
-use Rattle.ideal.specs.Step.{full, hasHandle, handleOf, next, freeFrom, freeHandle, firstHolding, idle, vacant, beyond, tests, refusal, protected, move, apply, effect, number, shown, accepted, settle, step, onReading, stepOn}
+use Rattle.ideal.specs.Step.{full, hasHandle, handleOf, next, freeFrom, freeHandle, firstHolding, idle, vacant, beyond, tests, refusal, protected, move, apply, effect, number, shown, accepted, settle, readingBy, stepOnBy, stepBy}
 use Rattle.ideal.specs.Tables.{Tables, flat, boxRecord, tables}
 use Rattle.ideal.specs.Box.{Element, laid, callOn, elementAt, tablesFrom, tablesAfter, tablesBefore, answerAt}
 use Rattle.ideal.specs.Secrecy.{inside, groupRuns, AlikeAt, same, other-bytes, AlikeLists, PremiseAt, Premise, isChain, ownChain}
@@ -79,7 +79,7 @@ record Computed : Type 0 where
   handle₂ : handleFor 1 ≡ 2 ^ 48 + 8
 
 computed : Computed
-unfolding group elements handleFor steered kindIn element elementAt stepElement stateBefore stateFrom groupRuns inside flat boxRecord tables little stands kinds among kindOf fromLittle field contents bytesField fields readFields readKind afterMap read write only recordOf filled recordIn fresh cleared ownPart any bytesUsed full hasHandle handleOf next freeFrom freeHandle firstHolding idle vacant beyond tests refusal protected move apply effect number shown accepted settle step onReading stepOn
+unfolding group elements handleFor steered kindIn element elementAt stepElement stateBefore stateFrom groupRuns inside flat boxRecord tables little stands kinds among kindOf fromLittle field contents bytesField fields readFields readKind afterMap read write only recordOf filled recordIn fresh cleared ownPart any bytesUsed full hasHandle handleOf next freeFrom freeHandle firstHolding idle vacant beyond tests refusal protected move apply effect number shown accepted settle stepBy readingBy stepOnBy
 computed =
     record {
       size = λ b. refl;

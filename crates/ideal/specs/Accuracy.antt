@@ -116,8 +116,13 @@ module _ (box : Tables → Element → Result) (es : List Element) where
   abbrev pub ProtectedBefore : ℕ → ℕ → Handle → List ℕ → Type 0
   ProtectedBefore k source handle v = Earlier (ProtectsAt source (callerIn (tablesBefore box es k)) handle v) k
 
+  -- a retrieve hands out a value exactly when that source earlier protected it for the caller and got that handle, and it fits
+  abbrev pub HandsOutWhen : (k source offset : ℕ) → Handle → Type 0
+  HandsOutWhen k source offset handle =
+      (v : List ℕ) → HandsOut offset v k ↔ (Sized k × ProtectedBefore k source handle v × (offset + length v ≤ 256))
+
   pub record RetrieveAt (k source offset : ℕ) (handle : Handle) : Type 0 where
-    pub hands-out : (v : List ℕ) → HandsOut offset v k ↔ (Sized k × ProtectedBefore k source handle v × (offset + length v ≤ 256))
+    pub hands-out : HandsOutWhen k source offset handle
     -- what is handed out is unique
     pub one-value : (v w : List ℕ) → ProtectedBefore k source handle v → ProtectedBefore k source handle w → v ≡ w
     -- 10: no such escrow row

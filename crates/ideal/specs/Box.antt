@@ -3,7 +3,9 @@ use Prim.Native.Nat.{ℕ}
 use mathlib.Core.Bool.{_&&_, cond}
 use mathlib.Core.List.{List, [], _∷_, _++_}
 use lib.ListN.{length, getD, take, drop}
-use Rattle.ideal.specs.Step.{Answer, Stepped, refusedAnswer, stepOn}
+use Rattle.record.specs.Call.{Call}
+use Rattle.ideal.specs.State.{State}
+use Rattle.ideal.specs.Step.{Answer, Stepped, refusedAnswer, refusal, stepOnBy}
 use Rattle.ideal.specs.Tables.{Tables, tables, stateOf, freshTables}
 use Rattle.ideal.specs.Soundness.{sizesRight, sound}
 
@@ -23,9 +25,15 @@ laid o = record { tables = tables (o .state); answer = o .answer }
 unfoldable pub unsound : Tables → Result
 unsound t = record { tables = t; answer = refusedAnswer 15 0 0 }
 
--- the box: 15 first of all, else the step of the state that the tables stand for, laid out again
-unfoldable pub callOn : Tables → Element → Result
-callOn t e = cond (sizesRight t (e .outputSize) && sound t) (laid (stepOn (stateOf t) (e .bytes))) (unsound t)
+-- a box that refuses calls with these numbers: 15 first of all, else the step of the state that the tables stand for, laid
+-- out again
+unfoldable pub boxBy : (State → Call → ℕ) → Tables → Element → Result
+boxBy refuses t e =
+    cond (sizesRight t (e .outputSize) && sound t) (laid (stepOnBy refuses (stateOf t) (e .bytes))) (unsound t)
+
+-- the box
+abbrev pub callOn : Tables → Element → Result
+callOn = boxBy refusal
 
 -- the bytes shown stand at the front of the output buffer, the remainder unaltered
 unfoldable pub outputAfter : Answer → List ℕ → List ℕ

@@ -1,20 +1,27 @@
 -- The three demands, each of a box on a host's tables.
+use Prim.Native.Nat.{ℕ}
+use mathlib.Core.Bool.{Bool}
+use mathlib.Core.List.{List}
 use Rattle.ideal.specs.Tables.{Tables}
 use Rattle.ideal.specs.Box.{Element, Result}
-use Rattle.ideal.specs.Refusals.{EachNumber, RefusalsAlterNothing, NeverFive, NumberOnlyWithOne, MissingIsExact}
+use Rattle.ideal.specs.Refusals.{conditions, EachNumberBy, EachNumber, RefusalsAlterNothing, NeverFive, NumberOnlyWithOne, MissingIsExact}
 use Rattle.ideal.specs.Answers.{AcceptedAnswers}
 use Rattle.ideal.specs.History.{HistoryHolds, Reports}
 use Rattle.ideal.specs.Accuracy.{CheckIsAccurate, LongCheckIsNo, RetrieveIsAccurate, ChainIsAccurate, HandleOnce, HandleIsFirstFree}
 use Rattle.ideal.specs.Secrecy.{Secrecy}
 
+-- whatever is malformed or full, the box finishes with the numbered refusal that this table has for it, and a refusal alters
+-- nothing
+pub record Demand1By (table : Tables → Element → List (ℕ × Bool)) (box : Tables → Element → Result) : Type 0 where
+  pub numbers : EachNumberBy box table
+  pub alters-nothing : RefusalsAlterNothing box
+  pub never-five : NeverFive box
+  pub number-only-with-one : NumberOnlyWithOne box
+  pub missing-is-exact : MissingIsExact box
+
 module _ (box : Tables → Element → Result) where
-  -- whatever is malformed or full, the box finishes with the numbered refusal written for it, and a refusal alters nothing
-  pub record Demand1 : Type 0 where
-    pub numbers : EachNumber box
-    pub alters-nothing : RefusalsAlterNothing box
-    pub never-five : NeverFive box
-    pub number-only-with-one : NumberOnlyWithOne box
-    pub missing-is-exact : MissingIsExact box
+  abbrev pub Demand1 : Type 0
+  Demand1 = Demand1By conditions box
 
   -- the box does what the ideal functionality says: it refuses nothing else, and what it holds and answers is what the
   -- calls since a fresh box say

@@ -7,7 +7,7 @@ use Rattle.ideal.specs.State.{fresh}
 use Rattle.ideal.specs.Step.{stepOn}
 use Rattle.ideal.specs.Tables.{Tables, tables, stateOf, freshTables}
 use Rattle.ideal.specs.Soundness.{sizesRight, sound}
-use Rattle.ideal.specs.Box.{Element, callOn}
+use Rattle.ideal.specs.Box.{Element, Result}
 
 -- the lent buffers are of their sizes, and the box is sound
 pub record Sound (t : Tables) (outputSize : ℕ) : Type 0 where
@@ -24,8 +24,8 @@ StatesAgree = (t : Tables) (n : ℕ) (bytes : List ℕ) → Sound t n
     → stateOf (tables (stepOn (stateOf t) bytes .state)) ≡ stepOn (stateOf t) bytes .state
 
 -- a call on a sound box ends in a sound box
-abbrev pub StaysSound : Type 0
-StaysSound = (t : Tables) (e : Element) → Sound t (e .outputSize) → Sound (callOn t e .tables) (e .outputSize)
+abbrev pub StaysSound : (Tables → Element → Result) → Type 0
+StaysSound box = (t : Tables) (e : Element) → Sound t (e .outputSize) → Sound (box t e .tables) (e .outputSize)
 
 -- a fresh box is the layout of the fresh state, and is sound
 pub record FreshBox : Type 0 where

@@ -14,6 +14,8 @@ pub mod Secrecy
 pub mod OneCall
 pub mod Demands
 pub mod Fixed
+pub mod LevelOne
+pub mod LevelOneDemands
 pub mod Fakes
 pub mod Witness
 pub mod Exam

@@ -196,14 +196,22 @@ callConditions t c =
     -- a seventeenth link has its 20
     ∷ cond (eqb kind 15) (chainConditions t 17 0 first (filled c .bytes)) []
 
-unfoldable pub onCall : Tables → Reading → List (ℕ × Bool)
-onCall t (refused code number) = []
-onCall t (whole c used) = callConditions t c
+-- order: 15; then the reader's; then those of the call that is read
+module _ (rows : Tables → Call → List (ℕ × Bool)) where
+  unfoldable pub onCallBy : Tables → Reading → List (ℕ × Bool)
+  onCallBy t (refused code number) = []
+  onCallBy t (whole c used) = rows t c
 
--- order: 15; then the reader's; then rising numbers, a chain's link by link
-unfoldable pub conditions : Tables → Element → List (ℕ × Bool)
-conditions t e =
-    (15, not (sizesRight t (e .outputSize) && sound t)) ∷ (readerConditions (e .bytes) ++ onCall t (read (e .bytes)))
+  unfoldable pub conditionsBy : Tables → Element → List (ℕ × Bool)
+  conditionsBy t e =
+      (15, not (sizesRight t (e .outputSize) && sound t)) ∷ (readerConditions (e .bytes) ++ onCallBy t (read (e .bytes)))
+
+-- of the full box: rising numbers, a chain's link by link
+abbrev pub onCall : Tables → Reading → List (ℕ × Bool)
+onCall = onCallBy callConditions
+
+abbrev pub conditions : Tables → Element → List (ℕ × Bool)
+conditions = conditionsBy callConditions
 
 -- a condition with the number n holds and none before it does; 0 where none holds
 pub data First (n : ℕ) : List (ℕ × Bool) → Type 0 where
@@ -233,8 +241,11 @@ followed e more = record { bytes = e .bytes ++ more; outputSize = e .outputSize 
 
 module _ (box : Tables → Element → Result) where
   -- each number is given when its condition holds and no earlier one does, and at no other time
+  abbrev pub EachNumberBy : (Tables → Element → List (ℕ × Bool)) → Type 0
+  EachNumberBy table = (t : Tables) (e : Element) (n : ℕ) → (box t e .answer .code ≡ n) ↔ First n (table t e)
+
   abbrev pub EachNumber : Type 0
-  EachNumber = (t : Tables) (e : Element) (n : ℕ) → (box t e .answer .code ≡ n) ↔ First n (conditions t e)
+  EachNumber = EachNumberBy conditions
 
   -- a refusal has the answer number of its code, shows nothing and alters nothing
   abbrev pub RefusalsAlterNothing : Type 0

@@ -3,7 +3,7 @@ use Prim.Native.Nat.{ℕ, zero, suc, _+_, _*_, _%_, _^_}
 use mathlib.Core.Bool.{Bool, true, false, not, _&&_, _||_, cond}
 use mathlib.Core.List.{List, [], _∷_, _++_}
 use mathlib.Core.Option.{Option, none, some}
-use lib.ListN.{length, set, replicate, take, drop}
+use lib.ListN.{length, set, take, drop}
 use lib.Seq.{sets}
 use lib.Dec.{eqb, ltb, leb}
 use Rattle.fnv.specs.declared.Tag.{Tag}
@@ -343,13 +343,25 @@ unfoldable pub settle : ℕ → State → Call → ℕ → Stepped
 settle zero s c used = accepted s c used
 settle (suc n) s c used = refuse s (suc n) 0 used
 
-unfoldable pub step : State → Call → ℕ → Stepped
-step s c used = settle (refusal s c) s c used
+-- a box that refuses calls with these numbers, and accepts them with 0
+module _ (refuses : State → Call → ℕ) where
+  unfoldable pub stepBy : State → Call → ℕ → Stepped
+  stepBy s c used = settle (refuses s c) s c used
 
-unfoldable pub onReading : State → Reading → Stepped
-onReading s (refused code number) = refuse s code number 0
-onReading s (whole c used) = step s c used
+  unfoldable pub readingBy : State → Reading → Stepped
+  readingBy s (refused code number) = refuse s code number 0
+  readingBy s (whole c used) = stepBy s c used
 
--- a record's bytes, read and carried out
-unfoldable pub stepOn : State → List ℕ → Stepped
-stepOn s bytes = onReading s (read bytes)
+  -- a record's bytes, read and carried out
+  unfoldable pub stepOnBy : State → List ℕ → Stepped
+  stepOnBy s bytes = readingBy s (read bytes)
+
+-- the full box
+abbrev pub step : State → Call → ℕ → Stepped
+step = stepBy refusal
+
+abbrev pub onReading : State → Reading → Stepped
+onReading = readingBy refusal
+
+abbrev pub stepOn : State → List ℕ → Stepped
+stepOn = stepOnBy refusal

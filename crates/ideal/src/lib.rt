@@ -1,4 +1,4 @@
-// The box record and the rows that a host holds.
+// The box record and the rows that a host holds, and the profiles of the box.
 use fnv::Tag;
 use record::Handle;
 
@@ -34,4 +34,10 @@ pub struct EscrowRow {
     pub handle: Handle,
     pub first: u16,
     pub length: u16,
+}
+
+// Which box: the full one, or the one for level-one papers (document 02, P5).
+pub enum Profile {
+    Full,
+    LevelOne,
 }

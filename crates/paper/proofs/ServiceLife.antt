@@ -16,7 +16,7 @@ use Rattle.ideal.specs.State.{State, Move, cleared, identityAt, heapAt, part, o
 use Rattle.ideal.specs.Step.{idle, vacant, beyond, firstHolding, accepted, shown, refusal, tests, move, apply, effect}
 use Rattle.ideal.specs.Tables.{Tables, takenMap, boxRecord, tables, stateOf}
 use Rattle.ideal.specs.Soundness.{sizesRight, sound}
-use Rattle.ideal.specs.Box.{Element, laid, unsound, callOn, elementAt, tablesBefore}
+use Rattle.ideal.specs.Box.{Element, laid, unsound, callOn, elementAt, tablesBefore, boxBy}
 use Rattle.ideal.specs.Layouts.{Sound}
 use Rattle.ideal.specs.Refusals.{oneOf}
 use Rattle.ideal.specs.OneCall.{withPlacesIn, leaves}
@@ -244,7 +244,7 @@ own-only s e p v b n =
     ap (λ r. heapOf (r .tables) p) (call-is s e v) ∙ heap-is s′ (valid-step s e v) p b ∙ same ∙ sym (heap-is s v p b)
 
 pub writes-own-heap : WritesOwnHeap callOn
-unfolding callOn unsound stateOf
+unfolding boxBy unsound stateOf
 writes-own-heap t e p b n =
     let m = e .outputSize in
     by-cases (sizesRight t m && sound t)

@@ -1,4 +1,4 @@
--- The answer sheet of a script (document 01, "The answer sheet").
+-- The answer sheet of a script (document 01, "The answer sheet"), by a box.
 use Prim.Native.Nat.{ℕ, zero, suc, _+_, _-_, _/_, _%_}
 use Prim.Native.Char.{code}
 use Prim.Native.String.{String}
@@ -8,7 +8,7 @@ use lib.ListN.{length, drop}
 use lib.Dec.{eqb, ltb}
 use Rattle.ideal.specs.Step.{Answer}
 use Rattle.ideal.specs.Tables.{Tables, freshTables}
-use Rattle.ideal.specs.Box.{Result, callOn}
+use Rattle.ideal.specs.Box.{Element, Result}
 
 -- ---- text
 
@@ -64,19 +64,20 @@ lastCode n = eqb n 1 || (eqb n 2 || eqb n 3)
 unfoldable pub stops : Answer → Bool
 stops a = lastCode (a .code)
 
--- the call of the record that stands at the front of what is left of a script
-unfoldable pub called : Tables → List ℕ → Result
-called t rest = callOn t (record { bytes = rest; outputSize = 1024 })
+module _ (box : Tables → Element → Result) where
+  -- the call of the record that stands at the front of what is left of a script
+  unfoldable pub called : Tables → List ℕ → Result
+  called t rest = box t (record { bytes = rest; outputSize = 1024 })
 
--- a line a record, until no input is left or after a line with 1, 2 or 3; at most n lines
-unfoldable pub linesFrom : ℕ → Tables → List ℕ → List ℕ
-linesFrom zero t rest = []
-linesFrom (suc n) t [] = []
-linesFrom (suc n) t (b ∷ bs) =
-    let r = called t (b ∷ bs) in
-    let later = linesFrom n (r .tables) (drop (r .answer .used) (b ∷ bs)) in
-    line (r .answer) ++ cond (stops (r .answer)) [] later
+  -- a line a record, until no input is left or after a line with 1, 2 or 3; at most n lines
+  unfoldable pub linesFrom : ℕ → Tables → List ℕ → List ℕ
+  linesFrom zero t rest = []
+  linesFrom (suc n) t [] = []
+  linesFrom (suc n) t (b ∷ bs) =
+      let r = called t (b ∷ bs) in
+      let later = linesFrom n (r .tables) (drop (r .answer .used) (b ∷ bs)) in
+      line (r .answer) ++ cond (stops (r .answer)) [] later
 
--- The whole sheet. A record that is not the last uses a byte at least, so there are no more lines than bytes.
-unfoldable pub sheet : List ℕ → List ℕ
-sheet script = header ++ cond (ltb 65536 (length script)) tooLong (linesFrom (length script) freshTables script)
+  -- The whole sheet. A record that is not the last uses a byte at least, so there are no more lines than bytes.
+  unfoldable pub sheet : List ℕ → List ℕ
+  sheet script = header ++ cond (ltb 65536 (length script)) tooLong (linesFrom (length script) freshTables script)

@@ -3,7 +3,7 @@ use Prim.Native.Nat.{ℕ, zero, suc}
 use mathlib.Core.Path.{_≡_, refl}
 use mathlib.Core.List.{List, []}
 use Rattle.record.specs.Call.{Call}
-use Rattle.ideal.specs.Step.{Answer as StepAnswer, refusal, effect, number, shown, refusedAnswer, refuse, accepted, settle, step}
+use Rattle.ideal.specs.Step.{Answer as StepAnswer, refusal, effect, number, shown, refusedAnswer, refuse, accepted, settle, step, stepBy}
 use Rattle.ideal.specs.Tables.{Tables, tables, stateOf}
 use Rattle.ideal.specs.Box.{Result, laid}
 use Rattle.state.specs.declared.Answer.{Answer}
@@ -65,5 +65,5 @@ module _ {t after : Tables} {c : Call} {n : ℕ} {v : List ℕ} (used : ℕ) (e 
   laid-at (suc r) h = rw e
 
   pub laid-step : laid (step (stateOf t) c used) ≡ settledResult (refusal (stateOf t) c) t after n v used
-  unfolding step
+  unfolding stepBy
   laid-step = laid-at (refusal (stateOf t) c) refl

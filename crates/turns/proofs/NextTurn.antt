@@ -5,9 +5,11 @@ use mathlib.Core.List.{List}
 use native.Mathlib.Omega.{arith}
 use lib.ListN.{length, take, drop, length-append}
 use lib.Seq.{take-at}
+use Rattle.ideal.specs.declared.Profile.{Profile}
 use Rattle.ideal.specs.Step.{Answer}
 use Rattle.ideal.specs.Tables.{Tables}
-use Rattle.ideal.specs.Box.{callOn, outputAfter}
+use Rattle.ideal.specs.Box.{outputAfter, boxBy}
+use Rattle.ideal.specs.LevelOne.{boxOf}
 use Rattle.ideal.specs.Layouts.{Sound}
 use Rattle.calls.specs.Entry.{EntryResult, resultOn, soundOn}
 use Rattle.sheet.specs.Sheet.{line, lastCode, stops, called}
@@ -15,23 +17,23 @@ use Rattle.sheet.specs.Stored.{AtFront}
 use Rattle.sheet.specs.Turns.{turn}
 use Rattle.turns.specs.Next.{answerIn, TurnMade}
 
-module _ (x : EntryResult) (t : Tables) (rest output : List ℕ) (e : x ≡ soundOn t rest output) where
+module _ (p : Profile) (x : EntryResult) (t : Tables) (rest output : List ℕ) (e : x ≡ soundOn p t rest output) where
   pub shown-fits : x .answer .shown ≤ length (x .output)
   unfolding soundOn resultOn outputAfter
   shown-fits =
       omega (arith, ap (λ (y : EntryResult). y .answer .shown) e, simp length-append at (ap (λ (y : EntryResult). length (y .output)) e))
 
-  answer-called : Sound t 1024 → answerIn (x .answer) (x .output) ≡ called t rest .answer
-  unfolding soundOn resultOn outputAfter called callOn
+  answer-called : Sound t 1024 → answerIn (x .answer) (x .output) ≡ called (boxOf p) t rest .answer
+  unfolding soundOn resultOn outputAfter called boxBy
   answer-called h = rw (e, h .sizes, h .box, take-at)
 
-  tables-called : Sound t 1024 → x .tables ≡ called t rest .tables
-  unfolding soundOn resultOn called callOn
+  tables-called : Sound t 1024 → x .tables ≡ called (boxOf p) t rest .tables
+  unfolding soundOn resultOn called boxBy
   tables-called h = rw (e, h .sizes, h .box)
 
   -- the line of the answer stands at the front of a buffer
   pub turn-called : {before after : List ℕ} {size : ℕ} → Sound t 1024 → AtFront (line (answerIn (x .answer) (x .output))) before after size
-      → TurnMade (record { tables = x .tables; text = take size after; used = x .answer .used; last = lastCode (x .answer .code) }) (turn t rest) before after size
+      → TurnMade (record { tables = x .tables; text = take size after; used = x .answer .used; last = lastCode (x .answer .code) }) (turn (boxOf p) t rest) before after size
   unfolding turn stops
   turn-called {before} {after} {size} h f =
       let answer = answer-called h in

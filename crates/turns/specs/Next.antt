@@ -5,8 +5,11 @@ use mathlib.Core.Bool.{false, cond}
 use mathlib.Core.List.{List, [], _∷_, _++_}
 use lib.ListN.{length, take, drop}
 use lib.Dec.{ltb}
+use Rattle.ideal.specs.declared.Profile.{Profile}
 use Rattle.ideal.specs.Step.{Answer as StepAnswer}
 use Rattle.ideal.specs.Tables.{Tables}
+use Rattle.ideal.specs.Box.{Element, Result}
+use Rattle.ideal.specs.LevelOne.{boxOf}
 use Rattle.ideal.specs.Layouts.{Sound}
 use Rattle.state.specs.declared.LogTable.{LogTable}
 use Rattle.state.specs.declared.EscrowTable.{EscrowTable}
@@ -58,34 +61,36 @@ abbrev pub followed : Turn → Turn → Turn
 followed a later =
     record { tables = later .tables; text = a .text ++ later .text; used = a .used + later .used; last = later .last }
 
--- turns until no input is left, after one that is the last, or where the next line might not fit in the room that is
--- left; at most n
-unfoldable pub turnsFrom : (n room : ℕ) → Tables → List ℕ → Turn
-turnsFrom zero room t rest = noTurn t
-turnsFrom (suc n) room t [] = noTurn t
-turnsFrom (suc n) room t (b ∷ bs) =
-    let a = turn t (b ∷ bs) in
-    let later = turnsFrom n (room - length (a .text)) (a .tables) (drop (a .used) (b ∷ bs)) in
-    cond (ltb room 2113) (noTurn t) (cond (a .last) a (followed a later))
+module _ (box : Tables → Element → Result) where
+  -- turns until no input is left, after one that is the last, or where the next line might not fit in the room that is
+  -- left; at most n
+  unfoldable pub turnsFrom : (n room : ℕ) → Tables → List ℕ → Turn
+  turnsFrom zero room t rest = noTurn t
+  turnsFrom (suc n) room t [] = noTurn t
+  turnsFrom (suc n) room t (b ∷ bs) =
+      let a = turn box t (b ∷ bs) in
+      let later = turnsFrom n (room - length (a .text)) (a .tables) (drop (a .used) (b ∷ bs)) in
+      cond (ltb room 2113) (noTurn t) (cond (a .last) a (followed a later))
 
--- a turn that is not the last uses a byte at least, so there are no more turns than bytes
-abbrev pub turns : ℕ → Tables → List ℕ → Turn
-turns room t rest = turnsFrom (length rest) room t rest
+  -- a turn that is not the last uses a byte at least, so there are no more turns than bytes
+  abbrev pub turns : ℕ → Tables → List ℕ → Turn
+  turns room t rest = turnsFrom (length rest) room t rest
 
--- the lines of a sheet from here to its end
-abbrev pub linesLeft : Tables → List ℕ → List ℕ
-linesLeft t rest = linesFrom (length rest) t rest
+  -- the lines of a sheet from here to its end
+  abbrev pub linesLeft : Tables → List ℕ → List ℕ
+  linesLeft t rest = linesFrom box (length rest) t rest
 
--- turns write the first of those lines, and leave the others to be written: none after a last line
-pub record Writes (made : Turn) (t : Tables) (rest : List ℕ) : Type 0 where
-  pub lines : linesLeft t rest ≡ made .text ++ cond (made .last) [] (linesLeft (made .tables) (drop (made .used) rest))
-  pub sound : Sound (made .tables) 1024
-  pub within : made .used ≤ length rest
+  -- turns write the first of those lines, and leave the others to be written: none after a last line
+  pub record Writes (made : Turn) (t : Tables) (rest : List ℕ) : Type 0 where
+    pub lines : linesLeft t rest ≡ made .text ++ cond (made .last) [] (linesLeft (made .tables) (drop (made .used) rest))
+    pub sound : Sound (made .tables) 1024
+    pub within : made .used ≤ length rest
 
 abbrev pub TurnsWrite : Type 0
-TurnsWrite = (room : ℕ) (t : Tables) (rest : List ℕ) → Sound t 1024 → Writes (turns room t rest) t rest
+TurnsWrite = (p : Profile) (room : ℕ) (t : Tables) (rest : List ℕ) → Sound t 1024
+    → Writes (boxOf p) (turns (boxOf p) room t rest) t rest
 
 -- where input is left and there is room for any line, something is written
 abbrev pub TurnsGoOn : Type 0
-TurnsGoOn = (room : ℕ) (t : Tables) (rest : List ℕ) → Sound t 1024 → 0 < length rest → 2113 ≤ room → turns room t rest .last ≡ false
-    → 0 < turns room t rest .used
+TurnsGoOn = (p : Profile) (room : ℕ) (t : Tables) (rest : List ℕ) → Sound t 1024 → 0 < length rest → 2113 ≤ room
+    → turns (boxOf p) room t rest .last ≡ false → 0 < turns (boxOf p) room t rest .used

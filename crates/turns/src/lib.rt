@@ -1,6 +1,7 @@
 // The records of a script, run on a sound box, and their lines.
 ghost use Prim.Native.Nat.{_+_, _*_, _≤_};
 ghost use lib.ListN.{length};
+ghost use Rattle.ideal.specs.LevelOne.{boxOf};
 ghost use Rattle.ideal.specs.Layouts.{Sound};
 ghost use Rattle.state.specs.Edits.{EditsBy};
 ghost use Rattle.soundness.specs.Parts.{tablesOf};
@@ -9,6 +10,7 @@ ghost use Rattle.sheet.specs.Stored.{AtFront};
 ghost use Rattle.sheet.specs.Turns.{turn};
 ghost use Rattle.turns.specs.Next.{answerIn, turnOf, turnsOf, TurnMade, turns};
 use ideal::BoxRecord;
+use ideal::Profile;
 use sheet::is_last;
 use sheet::write_line;
 use state::Answer;
@@ -49,6 +51,7 @@ fn write_answer(answer: Answer, output: &[u8], out: &mut [u8]) -> usize
 
 // The record at the front of rest on a sound box, and its line at the front of out. A line has at most 2,113 bytes.
 pub fn next_line(
+    profile: Profile,
     held: BoxRecord,
     log: LogTable,
     escrow: EscrowTable,
@@ -66,7 +69,8 @@ pub fn next_line(
     ensures { λ r. ⌜
         TurnMade
         (turnOf log escrow r (now (heaps .exit)) (now (shared .exit)) (now («log_values» .exit)) (now («escrow_values» .exit)) (now (out .exit)))
-        (turn (tablesOf held log escrow (now (heaps .entry)) (now (shared .entry)) (now («log_values» .entry)) (now («escrow_values» .entry)))
+        (turn (boxOf profile)
+        (tablesOf held log escrow (now (heaps .entry)) (now (shared .entry)) (now («log_values» .entry)) (now («escrow_values» .entry)))
         (now (rest .entry)))
         (now (out .entry)) (now (out .exit)) (r .size)
         ⌝ }
@@ -74,6 +78,7 @@ pub fn next_line(
 {
     let mut output = [0u8; 1024];
     let change = calls::call_sound(
+        profile,
         held,
         log,
         escrow,
@@ -100,6 +105,7 @@ pub fn next_line(
 // Lines at the front of out, a line a record, until no input is left, after a line that is the last, or where the next
 // line might not fit.
 pub fn next_lines(
+    profile: Profile,
     mut held: BoxRecord,
     mut log: LogTable,
     mut escrow: EscrowTable,
@@ -117,7 +123,7 @@ pub fn next_lines(
     ensures { λ r. ⌜
         TurnMade
         (turnsOf r (now (heaps .exit)) (now (shared .exit)) (now («log_values» .exit)) (now («escrow_values» .exit)) (now (out .exit)))
-        (turns (length (now (out .entry)))
+        (turns (boxOf profile) (length (now (out .entry)))
         (tablesOf held log escrow (now (heaps .entry)) (now (shared .entry)) (now («log_values» .entry)) (now («escrow_values» .entry)))
         (now (rest .entry)))
         (now (out .entry)) (now (out .exit)) (r .size)
@@ -131,6 +137,7 @@ pub fn next_lines(
             break;
         }
         let next = next_line(
+            profile,
             held,
             log,
             escrow,

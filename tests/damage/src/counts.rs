@@ -2,8 +2,8 @@
 
 use std::process::ExitCode;
 
-use differential::{Chains, HandOvers, Held, Missing};
-use interface::{Sides, Tally};
+use differential::{Chains, HandOvers, Held, LevelOne, Missing, Traced};
+use interface::{Both, Sides, Tally};
 use second::Answer;
 
 /// More hand overs of each sort than this are made on sound boxes.
@@ -15,8 +15,26 @@ const CHAINS: u64 = 20;
 /// More cut records that miss 1 to 8 bytes, of each sort, and that miss more.
 const CUT: u64 = 100;
 
+/// More level-one calls of each sort than this are made on sound boxes.
+const LEVEL_ONE: u64 = 40;
+
+/// Parts of the test. Level one's own codes, 21 to 23, come more often than this in
+/// each of them but the first.
+#[rustfmt::skip]
+const PARTS: [&str; 7] = [
+    "other", "hand-made boxes", "scripts", "level-one scripts", "sound boxes", "damaged boxes",
+    "altered boxes",
+];
+const OWN_CODES: u64 = 50;
+
 /// The codes are below this.
-const CODES: usize = 21;
+const CODES: usize = 24;
+
+/// The codes that no call gets: 5 is retired, 16 is the program's and 17 the
+/// writer's. Level one's are not the full box's, and what only an escrow or a chain
+/// brings on is not level one's.
+const NEVER_FULL: [usize; 6] = [5, 16, 17, 21, 22, 23];
+const NEVER_LEVEL_ONE: [usize; 9] = [5, 10, 12, 14, 16, 17, 18, 19, 20];
 
 /// Progress is told after so many calls.
 const PROGRESS: u64 = 500_000;
@@ -26,38 +44,79 @@ pub struct Counts {
     tally: Tally,
     calls: u64,
     told: u64,
-    /// Calls with each code.
-    codes: [u64; CODES],
+    /// Calls with each code, of the full box and of level one.
+    codes: [[u64; CODES]; 2],
+    /// What is called now, and level one's own codes in each of `PARTS`.
+    part: usize,
+    own_codes: [[u64; 3]; PARTS.len()],
     /// Writings with each code.
     written: [u64; CODES],
     /// Those on sound boxes, by the proved side's running place.
     hand_overs: HandOvers,
     chains: Chains,
+    level_one: LevelOne,
     /// Calls with code 1, by what the record misses.
     missing: Missing,
 }
 
 impl Counts {
-    /// One call on both sides. The answer, where they agree.
+    /// One call under each profile on both sides. The full box's answer, where they
+    /// agree; the box goes on as that leaves it.
     pub fn call(
         &mut self,
         sides: &mut Sides,
         record: &[u8],
         what: impl Fn() -> String,
     ) -> Option<Answer> {
+        let Both { full: (answer, left), .. } = self.both(sides, record, what)?;
+        *sides = left;
+        Some(answer)
+    }
+
+    /// As [`call`](Self::call), but level one's answer, and the box goes on as a
+    /// level-one paper.
+    pub fn call_level_one(
+        &mut self,
+        sides: &mut Sides,
+        record: &[u8],
+        what: impl Fn() -> String,
+    ) -> Option<Answer> {
+        let Both { level_one: (answer, left), .. } = self.both(sides, record, what)?;
+        *sides = left;
+        Some(answer)
+    }
+
+    fn both(&mut self, sides: &Sides, record: &[u8], what: impl Fn() -> String) -> Option<Both> {
         let running = sides.host.held.running;
-        let outcome = sides.call(record);
-        self.calls += 1;
+        let outcome = sides.call_both(record);
+        self.calls += 2;
         self.tally.check(outcome.is_ok(), || {
             let message = outcome.as_ref().err().map_or("", |message| message);
             format!("{}: {message}\nrecord: {record:02x?}", what())
         });
-        let answer = outcome.ok()?;
-        self.codes[usize::from(answer.code)] += 1;
-        self.hand_overs.add(running, record, answer.code.into());
-        self.chain(sides, record, &answer);
-        self.missing.add(answer.code.into(), answer.number);
-        Some(answer)
+        let both = outcome.ok()?;
+        let (full, level_one) = (&both.full.0, &both.level_one.0);
+        for (codes, answer) in self.codes.iter_mut().zip([full, level_one]) {
+            codes[usize::from(answer.code)] += 1;
+            self.missing.add(answer.code.into(), answer.number);
+        }
+        if let own @ 21..=23 = level_one.code {
+            self.own_codes[self.part][usize::from(own) - 21] += 1;
+        }
+        self.hand_overs.add(running, record, full.code.into());
+        self.chain(sides, record, full);
+        self.follows(sides, record, full.code, level_one.code);
+        Some(both)
+    }
+
+    /// Level one's answer follows from what the box held and the full box's code.
+    fn follows(&mut self, sides: &Sides, record: &[u8], full: u8, code: u8) {
+        if full == 15 {
+            return self.tally.check(code == 15, || format!("15 is {code} in level one"));
+        }
+        let traced = Traced::of(&sides.second);
+        let follows = self.level_one.add(&traced, record, Some(full), code);
+        self.tally.check(follows, || format!("level one's {code} on these tables: {record:02x?}"));
     }
 
     /// The answer to a chain follows from what the tables hold. It alters nothing,
@@ -91,6 +150,12 @@ impl Counts {
         self.calls
     }
 
+    /// What is called from now on, one of `PARTS`.
+    pub fn now(&mut self, name: &str) {
+        let part = PARTS.iter().position(|&part| part == name);
+        self.part = part.expect("it is one of the parts");
+    }
+
     pub fn part(&self, name: &str) {
         println!("{name}: {} calls so far", self.calls);
     }
@@ -102,32 +167,53 @@ impl Counts {
         }
     }
 
-    /// Every code that a host can meet in a call was met, and none of 16, 17 and 5,
-    /// which is retired. Hand overs of each sort were met, chains and cut records.
+    /// Hand overs of each sort were met, chains, cut records and level-one calls.
     pub fn summary(mut self) -> ExitCode {
-        println!("code calls writings");
-        for code in 0..CODES {
-            println!("{code:4} {} {}", self.codes[code], self.written[code]);
-        }
         println!("{}", self.hand_overs);
         let often = self.hand_overs.each_above(HAND_OVERS);
         self.tally.check(often, || format!("hand overs of each sort above {HAND_OVERS}"));
         println!("{}", self.chains);
         let often = self.chains.each_above(CHAINS);
         self.tally.check(often, || format!("chains of each sort above {CHAINS}"));
+        println!("{}", self.level_one);
+        let often = self.level_one.each_above(LEVEL_ONE);
+        self.tally.check(often, || format!("level-one calls of each sort above {LEVEL_ONE}"));
         println!("{}", self.missing);
         let often = self.missing.each_above(CUT);
         self.tally.check(often, || format!("cut records of each sort above {CUT}"));
         let right = self.missing.only_with_one();
         self.tally.check(right, || "1 is not the only refusal with a number".into());
-        for code in 0..CODES {
-            let by_call = self.codes[code] > 0;
-            let wanted = ![5, 16, 17].contains(&code);
-            self.tally.check(by_call == wanted, || format!("calls with code {code}"));
-            let by_writer = self.written[code] > 0;
-            let wanted = [0, 2, 17].contains(&code);
-            self.tally.check(by_writer == wanted, || format!("writings with code {code}"));
-        }
+        self.own_codes();
+        self.all_codes();
         self.tally.summary()
+    }
+
+    /// Level one's own codes came often in each part.
+    fn own_codes(&mut self) {
+        for (n, (name, counts)) in PARTS.iter().zip(self.own_codes).enumerate() {
+            let [escrow, place, value] = counts;
+            println!("{name}: 21 {escrow}, 22 {place}, 23 {value}");
+            let often = n == 0 || counts.iter().all(|&count| count > OWN_CODES);
+            self.tally.check(often, || format!("{name}: each above {OWN_CODES}"));
+        }
+    }
+
+    /// Every code that a host can meet in a call was met, under each profile, and no
+    /// other.
+    fn all_codes(&mut self) {
+        let Counts { tally, codes: [full, level_one], written, .. } = self;
+        println!("code full level-one writings");
+        for code in 0..CODES {
+            println!("{code:4} {} {} {}", full[code], level_one[code], written[code]);
+            let met = full[code] > 0;
+            let wanted = !NEVER_FULL.contains(&code);
+            tally.check(met == wanted, || format!("calls with code {code}"));
+            let met = level_one[code] > 0;
+            let wanted = !NEVER_LEVEL_ONE.contains(&code);
+            tally.check(met == wanted, || format!("level-one calls with code {code}"));
+            let met = written[code] > 0;
+            let wanted = [0, 2, 17].contains(&code);
+            tally.check(met == wanted, || format!("writings with code {code}"));
+        }
     }
 }

@@ -3,8 +3,10 @@
 //!
 //!     damage CALLS
 //!
-//! First what has a plan: each damage, each pair of them, each wrong size, each
-//! cut of a record. Then random boxes and records until CALLS calls are made.
+//! Each record is called under both profiles, the full box and level one. First what
+//! has a plan: each damage, each pair of them, each wrong size, each cut of a record,
+//! hand-made boxes for level one. Then random boxes and records until CALLS calls are
+//! made.
 
 #![forbid(unsafe_code)]
 
@@ -33,6 +35,8 @@ fn main() -> ExitCode {
     planned::cuts(&mut counts);
     planned::contents_cut(&mut counts);
     planned::cuts_followed(&mut counts);
+    planned::level_one(&mut counts);
+    planned::level_one_damaged(&mut counts);
     counts.part("planned");
     for seed in 0.. {
         if counts.calls() >= calls {

@@ -2,7 +2,7 @@
 
 use differential::calls::{attest, chain, create, hand_over, record_of};
 use differential::records::WRONG_OUTPUT_SIZES;
-use differential::{bases, broken, damages, pairs, play, Cut, Next, Random, LAYOUTS};
+use differential::{bases, broken, damages, hand_made, pairs, play, Cut, Next, Random, LAYOUTS};
 use interface::Sides;
 use second::{Answer, Call, Host, NONE_RUNS, OUTPUT_SIZE};
 
@@ -150,5 +150,37 @@ fn field_is_read(counts: &mut Counts, sides: &mut Sides, cut: &Cut, filler: u8) 
     if let Some(Answer { code, used, .. }) = counts.call(sides, &record, what) {
         let read = if used == 0 { (code, 0) } else { (0, used) };
         counts.holds(read == wanted, &what());
+    }
+}
+
+/// Every record that 21, 22 and 23 hang on, on every hand-made box, each on the box
+/// as it was made.
+pub fn level_one(counts: &mut Counts) {
+    counts.now("hand-made boxes");
+    let records = hand_made::records();
+    for (n, host) in hand_made().into_iter().enumerate() {
+        let sides = Sides::new(host, vec![7; OUTPUT_SIZE]);
+        for record in &records {
+            counts.call(&mut sides.clone(), record, || format!("hand-made box {n}"));
+        }
+    }
+}
+
+/// The same boxes damaged in each way: 15 to records of level one's own numbers.
+pub fn level_one_damaged(counts: &mut Counts) {
+    counts.now("other");
+    let mut random = Random::new(13);
+    let records = hand_made::records();
+    let boxes = hand_made();
+    for damage in damages() {
+        for _ in 0..8 {
+            let mut host = boxes[random.index(boxes.len())].clone();
+            if (damage.apply)(&mut host, &mut random) {
+                let mut sides = Sides::new(host, vec![7; OUTPUT_SIZE]);
+                let some: Vec<_> = (0..4).map(|_| random.index(records.len())).collect();
+                let some: Vec<_> = some.into_iter().map(|n| records[n].clone()).collect();
+                not_sound(counts, &mut sides, &some, damage.name);
+            }
+        }
     }
 }

@@ -1,20 +1,24 @@
 //! Random boxes, damaged or not, random records and random writings.
 
-use differential::calls::{hand_over, record_of};
+use differential::calls::{attest, hand_over, record_of};
+use differential::hand_made::{self, alter, hand_made};
 use differential::records::{any, held_chain, output_size, Known, KINDS};
-use differential::{damages, play, play_chains, scramble, Random};
+use differential::{damages, play, play_chains, play_level_one, scramble, Random};
 use interface::{write, Sides};
-use second::OUTPUT_SIZE;
+use second::{Host, OUTPUT_SIZE};
 
 use crate::counts::Counts;
 
-/// A script played call by call, calls on the box that it leads to, calls on
-/// damaged copies of that box, chains on a box with links, and writings.
+/// A script played call by call, a level-one script too, calls on the boxes that
+/// they lead to, calls on damaged and on altered copies of these boxes, chains on a
+/// box with links, and writings.
 pub fn round(counts: &mut Counts, seed: u64) {
     let mut random = Random::new(seed ^ 0x5EED_0000_0000);
     script(counts, seed);
+    level_one_script(counts, seed);
     sound(counts, seed, &mut random);
     damaged(counts, seed, &mut random);
+    altered(counts, seed, &mut random);
     chains(counts, seed, &mut random);
     for _ in 0..100 {
         writing(counts, seed, &mut random);
@@ -23,8 +27,9 @@ pub fn round(counts: &mut Counts, seed: u64) {
 
 /// The box record and the tables go from call to call.
 fn script(counts: &mut Counts, seed: u64) {
+    counts.now("scripts");
     let script = play(seed).script;
-    let mut sides = Sides::new(second::Host::fresh(), vec![0; OUTPUT_SIZE]);
+    let mut sides = Sides::new(Host::fresh(), vec![0; OUTPUT_SIZE]);
     let mut rest = &script[..];
     while !rest.is_empty() {
         match counts.call(&mut sides, rest, || format!("script, seed {seed}")) {
@@ -34,8 +39,24 @@ fn script(counts: &mut Counts, seed: u64) {
     }
 }
 
-/// Any records on a sound box, one after the other.
+/// The same as a level-one paper.
+fn level_one_script(counts: &mut Counts, seed: u64) {
+    counts.now("level-one scripts");
+    let script = play_level_one(seed).script;
+    let mut sides = Sides::new(Host::fresh(), vec![0; OUTPUT_SIZE]);
+    let mut rest = &script[..];
+    while !rest.is_empty() {
+        match counts.call_level_one(&mut sides, rest, || format!("level one, seed {seed}")) {
+            Some(answer) if ![1, 2, 3].contains(&answer.code) => rest = &rest[answer.used..],
+            _ => break,
+        }
+    }
+}
+
+/// Any records on a sound box, one after the other: a box that was played as the
+/// full box's, a hand-made one as level one's.
 fn sound(counts: &mut Counts, seed: u64, random: &mut Random) {
+    counts.now("sound boxes");
     let host = play(seed).host;
     let known = Known::of(&host);
     let output = random.bytes(OUTPUT_SIZE, 256);
@@ -43,14 +64,23 @@ fn sound(counts: &mut Counts, seed: u64, random: &mut Random) {
     for _ in 0..150 {
         counts.call(&mut sides, &any(random, &known), || format!("sound box, seed {seed}"));
     }
+    let host = one_of_hand_made(seed);
+    let known = Known::of(&host);
+    let mut sides = Sides::new(host, vec![7; OUTPUT_SIZE]);
+    for _ in 0..50 {
+        let what = || format!("hand-made box, seed {seed}");
+        counts.call_level_one(&mut sides, &any(random, &known), what);
+    }
 }
 
-/// One to three alterations anywhere, or a planned damage, and any record.
+/// One to three alterations anywhere, or a planned damage, and any record. Some of
+/// the boxes stay sound.
 fn damaged(counts: &mut Counts, seed: u64, random: &mut Random) {
-    let played = play(seed).host;
-    let known = Known::of(&played);
+    counts.now("damaged boxes");
+    let boxes = [play(seed).host, one_of_hand_made(seed), play_level_one(seed).host];
     let damages = damages();
-    for n in 0..150 {
+    for n in 0..225 {
+        let played = &boxes[n / 3 % 3];
         let mut host = played.clone();
         for _ in 0..=n % 3 {
             scramble(&mut host, random);
@@ -61,13 +91,50 @@ fn damaged(counts: &mut Counts, seed: u64, random: &mut Random) {
         }
         let size = output_size(random);
         let mut sides = Sides::new(host, random.bytes(size, 256));
-        counts.call(&mut sides, &any(random, &known), || format!("damaged box {n}, seed {seed}"));
+        let record = record(random, played);
+        counts.call(&mut sides, &record, || format!("damaged box {n}, seed {seed}"));
     }
+}
+
+/// Alterations after which the box is sound all the same, and any record.
+fn altered(counts: &mut Counts, seed: u64, random: &mut Random) {
+    counts.now("altered boxes");
+    let boxes = [play(seed).host, one_of_hand_made(seed), play_level_one(seed).host];
+    for n in 0..60 {
+        let mut host = boxes[n % 3].clone();
+        for _ in 0..=n % 4 {
+            alter(&mut host, random);
+        }
+        let record = record(random, &host);
+        let mut sides = Sides::new(host, vec![7; OUTPUT_SIZE]);
+        let answer = counts.call(&mut sides, &record, || format!("altered box {n}, seed {seed}"));
+        counts.holds(answer.map_or(true, |answer| answer.code != 15), "an altered box is sound");
+    }
+}
+
+/// Any record, half of the time one that level one has something to say to.
+fn record(random: &mut Random, host: &Host) -> Vec<u8> {
+    match random.below(4) {
+        0 => record_of(&attest(random.between(0, 4), random.pick(&[0, 1, 1, 2, 3, 256]))),
+        1 => {
+            let mut records = hand_made::records();
+            let n = random.index(records.len());
+            records.swap_remove(n)
+        }
+        _ => any(random, &Known::of(host)),
+    }
+}
+
+fn one_of_hand_made(seed: u64) -> Host {
+    let mut boxes = hand_made();
+    let n = seed as usize % boxes.len();
+    boxes.swap_remove(n)
 }
 
 /// Chains over what a sound box holds, half of them with one thing wrong, for each
 /// service in turn.
 fn chains(counts: &mut Counts, seed: u64, random: &mut Random) {
+    counts.now("other");
     let mut sides = Sides::new(play_chains(seed).host, vec![7; OUTPUT_SIZE]);
     for place in 0..16 {
         let chained = || format!("chains for place {place}, seed {seed}");

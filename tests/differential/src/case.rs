@@ -1,8 +1,9 @@
-//! A script, where it is worth while with its whole sheet written by hand.
+//! A script, where it is worth while with its whole sheet written by hand: the full
+//! box's, and in some cases level one's too.
 
 use std::fmt::Write;
 
-use second::Call;
+use second::{Call, Profile};
 
 use crate::calls::record_of;
 
@@ -12,6 +13,8 @@ pub struct Case {
     pub script: Vec<u8>,
     /// The sheet that document 01 asks for, where it was written by hand.
     pub sheet: Option<String>,
+    /// The same of a level-one paper.
+    pub level_one: Option<String>,
 }
 
 const HEADER: &str = "code number used bytes\n";
@@ -19,12 +22,30 @@ const HEADER: &str = "code number used bytes\n";
 impl Case {
     /// Only a script: the two programs are compared with each other alone.
     pub fn bare(name: impl Into<String>, script: Vec<u8>) -> Self {
-        Case { name: name.into(), script, sheet: None }
+        Case { name: name.into(), script, sheet: None, level_one: None }
     }
 
     /// An empty script and its sheet. The methods below add to both.
     pub fn new(name: impl Into<String>) -> Self {
-        Case { name: name.into(), script: Vec::new(), sheet: Some(HEADER.to_string()) }
+        Case::with_sheet(name, Vec::new(), HEADER)
+    }
+
+    /// A script and its sheet.
+    pub fn with_sheet(name: impl Into<String>, script: Vec<u8>, sheet: &str) -> Self {
+        Case { sheet: Some(sheet.into()), ..Case::bare(name, script) }
+    }
+
+    /// An empty script and both its sheets. The methods below add to all three.
+    pub fn of_both(name: impl Into<String>) -> Self {
+        Case { level_one: Some(HEADER.into()), ..Case::new(name) }
+    }
+
+    /// The sheet written by hand for the profile, if there is one.
+    pub fn by_hand(&self, profile: Profile) -> Option<&str> {
+        match profile {
+            Profile::Full => self.sheet.as_deref(),
+            Profile::LevelOne => self.level_one.as_deref(),
+        }
     }
 
     /// The call is accepted with this number and shows nothing.
@@ -42,6 +63,24 @@ impl Case {
         let record = record_of(&call);
         let number = if code == 0 { number } else { 0 };
         self.line(code, number, record.len(), &[]);
+        self.script.extend(record);
+    }
+
+    /// The call gets this code from the full box and that from level one. `number` is
+    /// the answer's where the code is 0.
+    pub fn codes(&mut self, full: u8, level_one: u8, number: u64, call: Call) {
+        let record = record_of(&call);
+        let number = |code| if code == 0 { number } else { 0 };
+        add_line(&mut self.sheet, full, number(full), record.len(), &[]);
+        add_line(&mut self.level_one, level_one, number(level_one), record.len(), &[]);
+        self.script.extend(record);
+    }
+
+    /// The call is accepted by both, each with its number.
+    pub fn numbers(&mut self, full: u64, level_one: u64, call: Call) {
+        let record = record_of(&call);
+        add_line(&mut self.sheet, 0, full, record.len(), &[]);
+        add_line(&mut self.level_one, 0, level_one, record.len(), &[]);
         self.script.extend(record);
     }
 
@@ -65,18 +104,24 @@ impl Case {
         self.script.extend(bytes);
     }
 
-    /// Adds a line to the sheet. 1 is the only refusal with a number other than 0.
+    /// Adds a line to the sheet, to both where there are two. 1 is the only refusal
+    /// with a number other than 0.
     pub fn line(&mut self, code: u8, number: u64, used: usize, shown: &[u8]) {
         assert!(code == 0 || (code == 1) == (number != 0), "{}: {code} {number}", self.name);
-        if let Some(sheet) = &mut self.sheet {
-            write!(sheet, "{code} {number} {used} ").expect("a String takes all that is written");
-            if shown.is_empty() {
-                sheet.push('-');
-            }
-            for byte in shown {
-                write!(sheet, "{byte:02x}").expect("a String takes all that is written");
-            }
-            sheet.push('\n');
+        add_line(&mut self.sheet, code, number, used, shown);
+        add_line(&mut self.level_one, code, number, used, shown);
+    }
+}
+
+fn add_line(sheet: &mut Option<String>, code: u8, number: u64, used: usize, shown: &[u8]) {
+    if let Some(sheet) = sheet {
+        write!(sheet, "{code} {number} {used} ").expect("a String takes all that is written");
+        if shown.is_empty() {
+            sheet.push('-');
         }
+        for byte in shown {
+            write!(sheet, "{byte:02x}").expect("a String takes all that is written");
+        }
+        sheet.push('\n');
     }
 }

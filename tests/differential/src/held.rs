@@ -280,10 +280,10 @@ impl Led {
 }
 
 /// What a script leads to, as its records and its sheet tell: who runs, the
-/// heaps, and what is held.
+/// heaps, and what is held. Or what a host's tables tell.
 pub struct Traced {
-    places: [u64; PLACES],
-    running: u8,
+    pub(crate) places: [u64; PLACES],
+    pub(crate) running: u8,
     heaps: Vec<u8>,
     pub held: Held,
 }
@@ -295,12 +295,24 @@ impl Traced {
         Traced { places: [0; PLACES], running: NONE_RUNS, heaps: vec![0; HEAPS_SIZE], held }
     }
 
+    /// A sound box.
+    pub fn of(host: &Host) -> Self {
+        let second::BoxRecord { identities: places, running, .. } = host.record;
+        Traced { places, running, heaps: host.heaps.clone(), held: Held::of(host) }
+    }
+
     /// The running identity, or 0.
     pub fn runner(&self) -> u64 {
         self.places.get(usize::from(self.running)).copied().unwrap_or(0)
     }
 
-    /// A part of the running heap.
+    /// A part of the running heap, which is in it.
+    pub fn value(&self, offset: u16, length: u16) -> Vec<u8> {
+        let first = HEAP_SIZE * usize::from(self.running) + usize::from(offset);
+        self.heaps[first..][..usize::from(length)].to_vec()
+    }
+
+    /// The same to write to.
     fn part(&mut self, offset: u16, length: usize) -> &mut [u8] {
         &mut self.heaps[HEAP_SIZE * usize::from(self.running) + usize::from(offset)..][..length]
     }

@@ -4,7 +4,7 @@
 use std::collections::VecDeque;
 
 use second::{
-    read, tag_of, Answer, Call, Host, Link, SoundBox, DRAW_LIMIT, HEAP_SIZE, NONE_RUNS,
+    read, tag_of, Answer, Call, Host, Link, Profile, SoundBox, DRAW_LIMIT, HEAP_SIZE, NONE_RUNS,
     OUTPUT_SIZE, PLACES, SHARED_SIZE, VALUES_SIZE,
 };
 
@@ -15,7 +15,7 @@ use crate::calls::{
 use crate::held::{link_value, Escrowed, Logged};
 use crate::random::Random;
 use crate::records::{self, Known};
-use crate::style::{Style, LINK, STYLES};
+use crate::style::{Style, LEVEL_ONE_STYLES, LINK, STYLES, TENANT};
 
 /// A script and the sound box that it leads to, but for its last records: up to
 /// four of them may be anything, malformed and cut too.
@@ -26,19 +26,24 @@ pub struct Played {
 
 /// Plays a script of up to some hundred calls. The seed decides all of it.
 pub fn play(seed: u64) -> Played {
-    play_one_of(seed, &STYLES)
+    play_one_of(seed, Profile::Full, &STYLES)
+}
+
+/// As [`play`], a level-one paper: the box is the one that it leads to.
+pub fn play_level_one(seed: u64) -> Played {
+    play_one_of(seed, Profile::LevelOne, &LEVEL_ONE_STYLES)
 }
 
 /// As [`play`], in the styles of chains alone.
 pub fn play_chains(seed: u64) -> Played {
-    play_one_of(seed, &STYLES[STYLES.len() - 2..])
+    play_one_of(seed, Profile::Full, &STYLES[STYLES.len() - 2..])
 }
 
-fn play_one_of(seed: u64, styles: &[Style]) -> Played {
+fn play_one_of(seed: u64, profile: Profile, styles: &[Style]) -> Played {
     let mut random = Random::new(seed);
     let style = styles[(seed % styles.len() as u64) as usize];
     let calls = random.between(style.calls / 4, style.calls);
-    let (host, mut script) = played_on_fresh(&mut random, style, |player| {
+    let (host, mut script) = played_on_fresh(&mut random, profile, style, |player| {
         for _ in 0..calls {
             player.step();
         }
@@ -62,7 +67,7 @@ fn play_one_of(seed: u64, styles: &[Style]) -> Played {
 pub fn long_script(seed: u64, length: usize) -> Vec<u8> {
     let mut random = Random::new(seed);
     let style = STYLES[(seed % STYLES.len() as u64) as usize];
-    let (_, mut script) = played_on_fresh(&mut random, style, |player| {
+    let (_, mut script) = played_on_fresh(&mut random, Profile::Full, style, |player| {
         while player.script.len() < length {
             player.step();
         }
@@ -73,14 +78,16 @@ pub fn long_script(seed: u64, length: usize) -> Vec<u8> {
 
 fn played_on_fresh(
     random: &mut Random,
+    profile: Profile,
     style: Style,
     plan: impl FnOnce(&mut Player),
 ) -> (Host, Vec<u8>) {
     let mut host = Host::fresh();
     let mut tables = host.lend();
     let mut output = [0; OUTPUT_SIZE];
-    let sound_box = SoundBox::new(&mut tables, &mut output).expect("a fresh box is sound");
-    let mut player = Player::new(sound_box, random, style);
+    let mut sound_box = SoundBox::new(&mut tables, &mut output).expect("a fresh box is sound");
+    let mut player = Player::new(sound_box.under(profile), random, style);
+    player.level_one = profile == Profile::LevelOne;
     plan(&mut player);
     let script = player.script;
     host.record = tables.record;
@@ -103,6 +110,8 @@ struct Player<'a> {
     sound_box: SoundBox<'a>,
     random: &'a mut Random,
     style: Style,
+    /// It plays a level-one paper.
+    level_one: bool,
     /// The identities to choose from, the tags and handles given so far, and what
     /// is held.
     known: Known,
@@ -122,6 +131,7 @@ impl<'a> Player<'a> {
             sound_box,
             random,
             style,
+            level_one: false,
             known,
             places: [0; PLACES],
             running: None,
@@ -223,6 +233,7 @@ impl<'a> Player<'a> {
             14 => self.hand_over(),
             15 => records::held_chain(self.random, &self.known),
             LINK => self.link(place),
+            TENANT => self.tenant(place),
             _ => record_of(&Call::Report),
         }
     }
@@ -230,9 +241,23 @@ impl<'a> Player<'a> {
     /// Takes an empty place; a report when there is none.
     fn create(&mut self) -> Vec<u8> {
         match self.place_where(|identity| identity == 0) {
+            Some(place) if self.level_one && self.random.once_in(16) => {
+                record_of(&create(place, 0))
+            }
             Some(place) => record_of(&create(place, self.random.pick(&self.known.identities))),
             None => record_of(&Call::Report),
         }
+    }
+
+    /// Who runs leaves, and another comes, runs and logs a value.
+    fn tenant(&mut self, place: u8) -> Vec<u8> {
+        let identity = self.random.pick(&self.known.identities);
+        let used = self.known.held.logged.iter().map(|logged| logged.value.len()).sum();
+        let length = self.value_length(used);
+        let value = self.random.bytes(usize::from(length), self.style.alphabet);
+        let calls = [create(place, identity), hand_over(place), heap_write(place, 0, &value)];
+        self.planned.extend(calls.iter().chain([&attest(0, length)]).map(record_of));
+        record_of(&Call::Exit)
     }
 
     /// Mostly to a taken place; else to 16, to the running place, to an empty
@@ -252,9 +277,12 @@ impl<'a> Player<'a> {
         }
     }
 
+    /// In a level-one paper seldom a place above 3.
     fn place_where(&mut self, holds: fn(u64) -> bool) -> Option<u8> {
+        let low = self.level_one && !self.random.once_in(8);
+        let end = if low { 4 } else { PLACES as u8 };
         let places: Vec<u8> =
-            (0..PLACES as u8).filter(|&place| holds(self.places[usize::from(place)])).collect();
+            (0..end).filter(|&place| holds(self.places[usize::from(place)])).collect();
         if places.is_empty() {
             None
         } else {
@@ -318,9 +346,30 @@ impl<'a> Player<'a> {
     }
 
     fn attest(&mut self) -> Vec<u8> {
+        if self.level_one && self.random.once_in(3) {
+            if let Some(record) = self.attest_again() {
+                return record;
+            }
+        }
         let used = self.known.held.logged.iter().map(|logged| logged.value.len()).sum();
         let length = self.value_length(used);
         record_of(&attest(self.offset(HEAP_SIZE, length), length))
+    }
+
+    /// The value that who runs has logged, from where it stands in the heap, or
+    /// from where it is written first.
+    fn attest_again(&mut self) -> Option<Vec<u8>> {
+        let (place, runner) = (self.running?, self.runner());
+        let row = self.known.held.logged.iter().find(|row| row.identity == runner)?;
+        let (value, length) = (row.value.clone(), row.value.len() as u16);
+        let heap = self.heap_part(0, HEAP_SIZE as u16);
+        let stands = (0..=HEAP_SIZE - value.len()).find(|&n| heap[n..].starts_with(&value));
+        if let Some(offset) = stands {
+            return Some(record_of(&attest(offset as u16, length)));
+        }
+        let offset = self.offset(HEAP_SIZE, length);
+        self.planned.push_back(record_of(&attest(offset, length)));
+        Some(record_of(&heap_write(place, offset, &value)))
     }
 
     /// A logged row, or one with a single thing wrong; or a pair never logged
@@ -467,7 +516,8 @@ impl<'a> Player<'a> {
 #[cfg(test)]
 mod tests {
     use super::*;
-    use second::{is_sound, sheet, ROWS};
+    use crate::level_one::LevelOne;
+    use second::{is_sound, sheet, sheet_level_one, ROWS};
 
     /// The boxes are sound, scripts come out the same each time, and the tables
     /// are filled to the last row and byte.
@@ -485,6 +535,41 @@ mod tests {
             full[3] += usize::from(usize::from(record.escrow_bytes) == VALUES_SIZE);
         }
         assert!(full.iter().all(|&count| count > 0), "{full:?}");
+    }
+
+    /// A level-one paper's boxes are sound, use no place above 3 and no escrow and
+    /// log one value of each identity; the log is filled to the last row and byte.
+    #[test]
+    fn level_one_papers_keep_to_their_rules() {
+        let mut full = [0; 2];
+        for seed in 0..200 {
+            let mut played = play_level_one(seed);
+            assert!(is_sound(&played.host.lend()));
+            let record = played.host.record;
+            assert_eq!((record.taken >> 4, record.escrow_rows), (0, 0));
+            let rows = &played.host.log[..usize::from(record.log_rows)];
+            for (n, row) in rows.iter().enumerate() {
+                assert!(rows[..n].iter().all(|before| before.identity != row.identity));
+            }
+            full[0] += usize::from(usize::from(record.log_rows) == ROWS);
+            full[1] += usize::from(usize::from(record.log_bytes) == VALUES_SIZE);
+            assert!(played.script.len() < second::SCRIPT_MAX, "{}", played.script.len());
+        }
+        println!("{full:?}");
+        assert!(full.iter().all(|&count| count > 2), "{full:?}");
+    }
+
+    /// Every sort that a level-one paper reaches comes often, and `second` answers
+    /// what follows from the lines before.
+    #[test]
+    fn level_one_papers_have_each_sort() {
+        let mut counted = LevelOne::default();
+        for seed in 0..200 {
+            let script = play_level_one(seed).script;
+            assert!(counted.count(&script, &sheet_level_one(&script)), "seed {seed}");
+        }
+        println!("{counted}");
+        assert!(counted.papers_above(10), "{counted}");
     }
 
     /// Most calls are accepted, whatever the style.

@@ -4,6 +4,9 @@
 /// escrowed.
 pub(crate) const LINK: u8 = 0;
 
+/// Among the kinds: who runs leaves, and a new tenant logs a value.
+pub(crate) const TENANT: u8 = 255;
+
 /// What sort of script it becomes.
 #[derive(Clone, Copy)]
 pub(crate) struct Style {
@@ -124,5 +127,69 @@ pub(crate) const STYLES: [Style; 10] = [
         identities: 3,
         loose: 12,
         calls: 240,
+    },
+];
+
+/// The sorts of level-one papers.
+pub(crate) const LEVEL_ONE_STYLES: [Style; 6] = [
+    // The same few values again and again, and others that are refused.
+    Style {
+        kinds: &[5, 6, 9, 9, 9, 9, 10, 13, 14, 14],
+        values: (0, 3),
+        alphabet: 2,
+        draws: 4,
+        identities: 3,
+        loose: 20,
+        calls: 240,
+    },
+    // Tenants come and go, each with a short value: the log's rows run out.
+    Style {
+        kinds: &[1, 5, 9, 9, 10, 13, 14, TENANT, TENANT, TENANT, TENANT],
+        values: (0, 6),
+        alphabet: 256,
+        draws: 4,
+        identities: 300,
+        loose: 40,
+        calls: 900,
+    },
+    // Tenants with long values: the log's bytes run out.
+    Style {
+        kinds: &[5, 6, 9, 9, 10, 14, 14, TENANT, TENANT],
+        values: (200, 256),
+        alphabet: 256,
+        draws: 4,
+        identities: 40,
+        loose: 40,
+        calls: 300,
+    },
+    // Escrow and chains, as a full paper has them.
+    Style {
+        kinds: &[1, 4, 5, 6, 9, 9, 10, 11, 11, 12, 12, 13, 14, 15, 15, LINK, LINK],
+        values: (0, 40),
+        alphabet: 256,
+        draws: 1 << 48,
+        identities: 5,
+        loose: 12,
+        calls: 240,
+    },
+    // Every kind, and shared memory.
+    Style {
+        kinds: &[1, 1, 4, 5, 5, 6, 7, 8, 9, 9, 9, 10, 13, 14, 14],
+        values: (0, 64),
+        alphabet: 8,
+        draws: 4,
+        identities: 8,
+        loose: 15,
+        calls: 240,
+    },
+    // Every second call is loose.
+    Style {
+        kinds: &[1, 4, 5, 6, 7, 8, 9, 9, 10, 11, 12, 13, 14, 15],
+        values: (0, 256),
+        alphabet: 8,
+        draws: 4,
+        identities: 3,
+        loose: 2,
+        calls: 200,
     },
 ];

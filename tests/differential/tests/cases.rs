@@ -2,8 +2,8 @@
 
 use std::collections::HashSet;
 
-use differential::{cases, lines, Chains, HandOvers, LAYOUTS};
-use second::sheet;
+use differential::{cases, lines, Chains, HandOvers, LevelOne, LAYOUTS};
+use second::{sheet, sheet_level_one};
 
 #[test]
 fn second_prints_what_was_written_by_hand() {
@@ -16,6 +16,38 @@ fn second_prints_what_was_written_by_hand() {
     }
     println!("{by_hand}");
     assert!(by_hand > 11_000, "{by_hand}");
+}
+
+/// Level one's too. Most of them differ from the full box's.
+#[test]
+fn second_prints_what_was_written_by_hand_for_level_one() {
+    let (mut by_hand, mut differ) = (0, 0);
+    for case in cases::all() {
+        if let Some(written) = case.level_one {
+            assert!(sheet_level_one(&case.script) == written.as_bytes(), "{}", case.name);
+            by_hand += 1;
+            differ += usize::from(case.sheet != Some(written));
+        }
+    }
+    println!("{by_hand}, {differ}");
+    assert!(by_hand > 300 && differ > 300, "{by_hand}, {differ}");
+}
+
+/// The cases' level-one sheets have each sort that a paper reaches, and each answer
+/// follows from what the records before it and their lines tell, in the sheets of
+/// `second` and in those written by hand.
+#[test]
+fn level_one_calls_of_each_sort() {
+    let (mut all, mut by_hand) = (LevelOne::default(), LevelOne::default());
+    for case in cases::all() {
+        let sheet = sheet_level_one(&case.script);
+        assert!(all.count(&case.script, &sheet), "{}", case.name);
+        if let Some(written) = &case.level_one {
+            assert!(by_hand.count(&case.script, written.as_bytes()), "{}", case.name);
+        }
+    }
+    println!("{all}\nby hand, {by_hand}");
+    assert!(all.papers_above(10) && by_hand.papers_above(1), "{all}\n{by_hand}");
 }
 
 #[test]

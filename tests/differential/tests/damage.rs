@@ -1,10 +1,10 @@
 //! The damages break what they say, and `second` answers 15 to every call on a
-//! damaged box and alters nothing.
+//! damaged box, under either profile, and alters nothing.
 
 use differential::calls::{attest, chain, create, hand_over, record_of};
 use differential::records::{any, output_size, Known, WRONG_OUTPUT_SIZES};
 use differential::{bases, broken, damages, pairs, play, scramble, Clause, Random};
-use second::{call, is_sound, Answer, Call, Host, NONE_RUNS, OUTPUT_SIZE};
+use second::{call, call_level_one, is_sound, Answer, Call, Host, NONE_RUNS, OUTPUT_SIZE};
 
 const REFUSED: Answer = Answer { code: 15, number: 0, used: 0, shown: 0 };
 
@@ -24,6 +24,8 @@ fn refused(mut host: Host, what: &str) {
     for record in records() {
         let mut output = [7; OUTPUT_SIZE];
         let answer = call(&mut host.lend(), &mut output, &record);
+        assert_eq!(answer, REFUSED, "{what}");
+        let answer = call_level_one(&mut host.lend(), &mut output, &record);
         assert_eq!(answer, REFUSED, "{what}");
         assert!(host == before, "{what}: altered");
         assert!(output == [7; OUTPUT_SIZE], "{what}: output altered");
@@ -120,6 +122,7 @@ fn wrong_output_sizes_are_refused() {
             for record in records() {
                 let mut output = vec![7; size];
                 assert_eq!(call(&mut host.lend(), &mut output, &record), REFUSED);
+                assert_eq!(call_level_one(&mut host.lend(), &mut output, &record), REFUSED);
                 assert!(host == before && output == vec![7; size]);
             }
         }
@@ -150,7 +153,7 @@ fn clauses_agree_with_second() {
 fn refusal_15_is_given_exactly_then() {
     let mut random = Random::new(7);
     let boxes = random_boxes();
-    let mut codes = [0; 21];
+    let mut codes = [0; 24];
     for n in 0..4_000 {
         let mut host = boxes[n % boxes.len()].clone();
         let record = any(&mut random, &Known::of(&host));
@@ -159,11 +162,14 @@ fn refusal_15_is_given_exactly_then() {
         }
         let size = output_size(&mut random);
         let unfit = size != OUTPUT_SIZE || !broken(&host).is_empty();
+        let level_one = host.clone().call_level_one(&mut vec![0; size], &record);
+        assert_eq!(level_one.code == 15, unfit);
         let answer = host.call(&mut vec![0; size], &record);
         assert_eq!(answer.code == 15, unfit);
         assert!(answer.code == 0 || (answer.code == 1) == (answer.number != 0), "{answer:?}");
         codes[usize::from(answer.code)] += 1;
     }
     println!("{codes:?}");
+    assert_eq!(codes[21..], [0; 3]);
     assert!(codes[0] > 100 && codes[1] > 50 && codes[15] > 100 && codes[5] == 0, "{codes:?}");
 }

@@ -1,20 +1,23 @@
 //! One input of the fuzzer: a box, alterations of it, and records. The proved
 //! box and `second` must agree after each call, in the number too, and never
-//! answer 5, which is retired. What a cut record misses is tried out, and where a
-//! chain leads is told from the tables.
+//! answer 5, which is retired. Each call is made under both profiles, the full box
+//! and level one, and goes on with one of them. What a cut record misses is tried
+//! out; where a chain leads, and what level one refuses, is told from the tables.
 
 #![deny(unsafe_op_in_unsafe_fn)]
 
 use std::slice;
 
 use differential::records::WRONG_OUTPUT_SIZES;
-use differential::{bases, play, Chains, Held};
-use interface::{write, Fields, Sides};
+use differential::{bases, hand_made, play, Chains, Held, LevelOne, Traced};
+use interface::{write, Both, Fields, Profile, Sides};
 use second::{read, Answer, Call, EscrowRow, Host, LogRow, OUTPUT_SIZE, ROWS};
 
 thread_local! {
-    static BOXES: Vec<Host> =
-        bases().into_iter().chain((0..12).map(|seed| play(seed).host)).collect();
+    static BOXES: Vec<Host> = {
+        let played = (0..12).map(|seed| play(seed).host);
+        bases().into_iter().chain(played).chain(hand_made()).collect()
+    };
 }
 
 /// # Safety
@@ -28,10 +31,12 @@ pub unsafe extern "C" fn LLVMFuzzerTestOneInput(data: *const u8, size: usize) ->
     let first = input.byte();
     let mut host = BOXES.with(|boxes| boxes[first % boxes.len()].clone());
     let output = *WRONG_OUTPUT_SIZES.get(255 - input.byte()).unwrap_or(&OUTPUT_SIZE);
-    for _ in 0..input.byte() % 4 {
+    let third = input.byte();
+    for _ in 0..third % 4 {
         alter(&mut host, &mut input);
     }
-    calls(&mut Sides::new(host, vec![7; output]), input.0);
+    let profile = if third / 4 % 2 == 0 { Profile::Full } else { Profile::LevelOne };
+    calls(profile, Sides::new(host, vec![7; output]), input.0);
     0
 }
 
@@ -113,21 +118,39 @@ fn resize(host: &mut Host, which: usize, size: usize) {
 }
 
 /// The records, one after the other, and what is left once no record can be read.
-fn calls(sides: &mut Sides, mut rest: &[u8]) {
+fn calls(profile: Profile, mut sides: Sides, mut rest: &[u8]) {
     loop {
-        let answer = sides.call(rest).unwrap_or_else(|message| panic!("{message}: {rest:02x?}"));
+        let both = sides.call_both(rest);
+        let both = both.unwrap_or_else(|message| panic!("{message}: {rest:02x?}"));
         if let Ok((call, used)) = read(rest) {
             writings(&call, &rest[..used]);
         }
-        chain(sides, rest, &answer);
+        chain(&sides, rest, &both.full.0);
+        level_one(&sides, rest, &both);
+        let (answer, left) = match profile {
+            Profile::Full => both.full,
+            Profile::LevelOne => both.level_one,
+        };
+        sides = left;
         if answer.code == 1 {
-            missing(sides, rest, answer.number as usize);
+            missing(&sides, rest, answer.number as usize);
         }
         if answer.used == 0 {
             return;
         }
         rest = &rest[answer.used..];
     }
+}
+
+/// Level one's answer is the one that follows from what the box held.
+fn level_one(sides: &Sides, record: &[u8], both: &Both) {
+    let (full, code) = (both.full.0.code, both.level_one.0.code);
+    if full == 15 {
+        return assert_eq!(code, 15, "{record:02x?}");
+    }
+    let traced = Traced::of(&sides.second);
+    let follows = LevelOne::default().add(&traced, record, Some(full), code);
+    assert!(follows, "the full box {full}, level one {code}: {record:02x?}");
 }
 
 /// A chain's answer is the one that follows from what the tables hold.

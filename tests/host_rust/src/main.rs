@@ -4,6 +4,7 @@
 
 mod calls;
 mod layout;
+mod level_one;
 mod refusals;
 
 use std::process::ExitCode;
@@ -15,5 +16,6 @@ fn main() -> ExitCode {
     layout::check(&mut tally);
     calls::check(&mut tally);
     refusals::check(&mut tally);
+    level_one::check(&mut tally);
     tally.summary()
 }

@@ -1,5 +1,7 @@
 //! What `include/caif.h` declares, in its order and under its names.
 
+use second::Profile;
+
 /// `struct caif_used`.
 #[repr(C)]
 #[derive(Clone, Copy, Debug, Default, PartialEq, Eq)]
@@ -93,6 +95,26 @@ extern "C" {
         bytes_size: usize,
     ) -> Reply;
 
+    fn caif_call_level_one(
+        held: BoxRecord,
+        log: *mut LogRow,
+        log_rows: usize,
+        escrow: *mut EscrowRow,
+        escrow_rows: usize,
+        heaps: *mut u8,
+        heaps_size: usize,
+        shared: *mut u8,
+        shared_size: usize,
+        log_values: *mut u8,
+        log_values_size: usize,
+        escrow_values: *mut u8,
+        escrow_values_size: usize,
+        output: *mut u8,
+        output_size: usize,
+        bytes: *const u8,
+        bytes_size: usize,
+    ) -> Reply;
+
     fn caif_write(
         kind: u8,
         fields: Fields,
@@ -120,13 +142,17 @@ pub fn fresh() -> BoxRecord {
     unsafe { caif_fresh() }
 }
 
-/// One call.
-pub(crate) fn call(held: BoxRecord, lent: Lent, bytes: &[u8]) -> Reply {
+/// One call through the profile's entry.
+pub(crate) fn call(profile: Profile, held: BoxRecord, lent: Lent, bytes: &[u8]) -> Reply {
     let Lent { log, escrow, heaps, shared, log_values, escrow_values, output } = lent;
+    let entry = match profile {
+        Profile::Full => caif_call,
+        Profile::LevelOne => caif_call_level_one,
+    };
     // SAFETY: a slice is what the header asks of a pointer and its count, an
     // empty one too: not null, aligned and so long. Two `&mut` never overlap.
     unsafe {
-        caif_call(
+        entry(
             held,
             log.as_mut_ptr(),
             log.len(),

@@ -1,6 +1,6 @@
 //! A host that lends guarded buffers, and the same box on both sides.
 
-use second::{Answer, OUTPUT_SIZE};
+use second::{Answer, Profile, OUTPUT_SIZE};
 
 use crate::declared::{call, fresh, BoxRecord, EscrowRow, Lent, LogRow, Reply, Used};
 
@@ -101,6 +101,16 @@ impl Host {
 
     /// One call through the C interface. The box record that comes back is kept.
     pub fn call(&mut self, record: &[u8]) -> Reply {
+        self.call_under(Profile::Full, record)
+    }
+
+    /// As [`call`](Self::call), for a level-one paper.
+    pub fn call_level_one(&mut self, record: &[u8]) -> Reply {
+        self.call_under(Profile::LevelOne, record)
+    }
+
+    /// As [`call`](Self::call), through the profile's entry.
+    pub fn call_under(&mut self, profile: Profile, record: &[u8]) -> Reply {
         let lent = Lent {
             log: self.log.lend(),
             escrow: self.escrow.lend(),
@@ -110,7 +120,7 @@ impl Host {
             escrow_values: self.escrow_values.lend(),
             output: self.output.lend(),
         };
-        let reply = call(self.held, lent, record);
+        let reply = call(profile, self.held, lent, record);
         self.held = reply.held;
         reply
     }
@@ -222,9 +232,17 @@ impl Sides {
     /// is held to have altered nothing, 1 to have a number other than 0 and the
     /// others to have 0, and none to be 5, which is retired.
     pub fn call(&mut self, record: &[u8]) -> Result<Answer, String> {
-        let wanted = self.second.call(&mut self.output, record);
+        self.call_under(Profile::Full, record)
+    }
+
+    /// As [`call`](Self::call), under a profile.
+    pub fn call_under(&mut self, profile: Profile, record: &[u8]) -> Result<Answer, String> {
+        let wanted = match profile {
+            Profile::Full => self.second.call(&mut self.output, record),
+            Profile::LevelOne => self.second.call_level_one(&mut self.output, record),
+        };
         let before = (wanted.code != 0).then(|| self.host.clone());
-        let reply = self.host.call(record);
+        let reply = self.host.call_under(profile, record);
         let Reply { code, number, used, shown, .. } = reply;
         let answer = Answer { code, number, used, shown: usize::from(shown) };
         if answer != wanted {
@@ -244,4 +262,34 @@ impl Sides {
         }
         Ok(answer)
     }
+
+    /// One call on this box under each profile, each on both sides: the answers
+    /// and what each leaves, or what was not the same. The profiles differ only
+    /// where level one gives 21, 22 or 23, and the full box never gives these.
+    pub fn call_both(&self, record: &[u8]) -> Result<Both, String> {
+        let call = |profile| {
+            let mut left = self.clone();
+            let answer = left.call_under(profile, record);
+            answer.map(|answer| (answer, left)).map_err(|what| format!("{profile:?}: {what}"))
+        };
+        let both = Both { full: call(Profile::Full)?, level_one: call(Profile::LevelOne)? };
+        let ((full, full_left), (level_one, left)) = (&both.full, &both.level_one);
+        let own = |answer: &Answer| matches!(answer.code, 21..=23);
+        if own(full) {
+            return Err(format!("the full box answers {full:?}"));
+        }
+        if own(level_one) && (level_one.used != full.used || full.used == 0) {
+            return Err(format!("level one answers {level_one:?}, the full box {full:?}"));
+        }
+        if !own(level_one) && (level_one != full || left.host != full_left.host) {
+            return Err(format!("level one does not do what the full box does: {level_one:?}"));
+        }
+        Ok(both)
+    }
+}
+
+/// Under each profile: the answer, and the box as the call leaves it.
+pub struct Both {
+    pub full: (Answer, Sides),
+    pub level_one: (Answer, Sides),
 }

@@ -27,7 +27,7 @@ same-length-5 : tie.Need-same-length-5
 same-length-5 c = search needs
 
 returns : tie.Need-returns
-returns c = nothing-put (c .refuse .ensures) (refused-entry _ _ _ (sym (c .before .before .is-ready .ensures) ∙ not-true _ (c .before .if1 .taken)))
+returns c = nothing-put (c .refuse .ensures) (refused-entry _ _ _ _ (sym (c .before .before .is-ready .ensures) ∙ not-true _ (c .before .if1 .taken)))
 
 call-sound-requires : tie.Need-call-sound-requires
 call-sound-requires c κs = ready-sound _ _ (sym (c .before .before .before .before .before .before .is-ready .ensures) ∙ not-false _ (c .before .before .before .before .before .if1 .left))
@@ -48,7 +48,7 @@ same-length-10 : tie.Need-same-length-10
 same-length-10 c = search needs
 
 returns-2 : tie.Need-returns-2
-returns-2 c = let called = c .before .before .before .before .before .before .before .before .before .before .call-sound .ensures in (called .0 ∙ sound-entry _ _ _ (sym (c .before .before .before .before .before .before .before .before .before .before .before .before .before .before .before .before .before .is-ready .ensures) ∙ not-false _ (c .before .before .before .before .before .before .before .before .before .before .before .before .before .before .before .before .if1 .left)), called .1)
+returns-2 c = let called = c .before .before .before .before .before .before .before .before .before .before .call-sound .ensures in (called .0 ∙ sound-entry _ _ _ _ (sym (c .before .before .before .before .before .before .before .before .before .before .before .before .before .before .before .before .before .is-ready .ensures) ∙ not-false _ (c .before .before .before .before .before .before .before .before .before .before .before .before .before .before .before .before .if1 .left)), called .1)
 
 pub call-spec : {M : Type 1} → statement M
 call-spec =

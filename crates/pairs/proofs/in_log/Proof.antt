@@ -5,7 +5,7 @@ use lib.Seq.{drop-length}
 use lib.ListN.{length, take, drop, length-take}
 use Rattle.ideal.specs.Fit.{RowsFit}
 use Rattle.ideal.specs.Tables.{logTable, entriesOf}
-use Rattle.ideal.specs.Step.{logged}
+use Rattle.ideal.specs.Step.{isLogged, logged}
 use Rattle.ideal.specs.State.{any}
 use Rattle.pairs.proofs.Search.{search-step}
 use Rattle.pairs.proofs.in_log.Statement.{statement}
@@ -35,12 +35,13 @@ row-is-requires c κs =
     c .before .before .before .before .before .pre .1 (c .before .before .loop .i) (c .before .loop-test .taken)
 
 returns : tie.Need-returns Inv-loop μ-loop
+unfolding logged
 returns c =
     let x = c .before .before .before .before .before .before .before .args in
     let l = c .before .before .before .before .loop in
     let q : x .n ≤ length (x .t1) = omega arith in
     let s =
-    search-step (x .values .now) (x .t1) (x .n) (l .i) (x .identity) (x .tag) (x .value .now) (c .before .before .before .loop-test .taken) q in
+    search-step (isLogged (x .identity) (x .tag) (x .value .now)) (x .values .now) (x .t1) (x .n) (l .i) (c .before .before .before .loop-test .taken) q in
     let t = sym (c .before .row-is .ensures) ∙ c .if1 .taken in
     sym (rw t at s) ∙ l .inv .1
 
@@ -51,12 +52,13 @@ loop-less : tie.Need-loop-less Inv-loop μ-loop
 loop-less c = omega arith
 
 loop-again : tie.Need-loop-again Inv-loop μ-loop
+unfolding logged
 loop-again c =
     let x = c .before .before .before .before .before .before .before .args in
     let l = c .before .before .before .before .loop in
     let q : x .n ≤ length (x .t1) = omega arith in
     let s =
-    search-step (x .values .now) (x .t1) (x .n) (l .i) (x .identity) (x .tag) (x .value .now) (c .before .before .before .loop-test .taken) q in
+    search-step (isLogged (x .identity) (x .tag) (x .value .now)) (x .values .now) (x .t1) (x .n) (l .i) (c .before .before .before .loop-test .taken) q in
     let t = sym (c .before .row-is .ensures) ∙ c .if1 .left in
     (omega arith, sym (rw t at s) ∙ l .inv .1)
 

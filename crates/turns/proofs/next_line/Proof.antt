@@ -15,7 +15,7 @@ slice-aggregate-write-answer c = search needs
 
 write-answer-requires : tie.Need-write-answer-requires
 write-answer-requires c κs =
-    let fits = shown-fits _ _ _ _ (c .before .before .before .before .before .before .before .before .before .before .before .before .call-sound .ensures .0) in
+    let fits = shown-fits _ _ _ _ _ (c .before .before .before .before .before .before .before .before .before .before .before .before .call-sound .ensures .0) in
     (fits, omega (arith, fits, c .before .before .before .output2 .given, c .before .before .before .before .before .before .before .before .before .before .before .before .before .before .before .before .before .before .before .before .before .before .before .before .pre .1))
 
 is-last-requires : tie.Need-is-last-requires
@@ -39,7 +39,7 @@ same-length-5 c = search needs
 returns : tie.Need-returns
 returns c =
     let called = c .before .before .before .before .before .before .before .before .before .before .before .before .before .before .before .before .before .before .call-sound .ensures in
-    (rw (c .is-last .ensures) (turn-called _ _ _ _ (called .0) (c .before .before .before .before .before .before .before .before .before .before .before .before .before .before .before .before .before .before .before .before .before .before .before .before .before .before .before .before .before .before .pre .0) (c .before .before .before .before .before .write-answer .ensures)), called .1)
+    (rw (c .is-last .ensures) (turn-called _ _ _ _ _ (called .0) (c .before .before .before .before .before .before .before .before .before .before .before .before .before .before .before .before .before .before .before .before .before .before .before .before .before .before .before .before .before .before .pre .0) (c .before .before .before .before .before .write-answer .ensures)), called .1)
 
 pub next-line-spec : {M : Type 1} → statement M
 next-line-spec =

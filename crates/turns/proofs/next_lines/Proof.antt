@@ -10,14 +10,14 @@ use Rattle.turns.proofs.next_lines.Statement.{statement}
 use Rattle.turns.proofs.next_lines.Tie as tie
 
 abbrev Inv-loop : tie.InvT-loop
-Inv-loop b₀ log₀ escrow₀ heaps₀ shared₀ log-values₀ escrow-values₀ rest out₀ used₀ size₀ last₀ b log escrow heaps shared log-values escrow-values out used size last =
-    Going out₀ (tablesOf b₀ log₀ escrow₀ heaps₀ shared₀ log-values₀ escrow-values₀) rest
+Inv-loop profile b₀ log₀ escrow₀ heaps₀ shared₀ log-values₀ escrow-values₀ rest out₀ used₀ size₀ last₀ b log escrow heaps shared log-values escrow-values out used size last =
+    Going profile out₀ (tablesOf b₀ log₀ escrow₀ heaps₀ shared₀ log-values₀ escrow-values₀) rest
     (tablesOf b log escrow heaps shared log-values escrow-values) used out size
     × (last ≡ false) × (length heaps ≡ length heaps₀) × (length shared ≡ length shared₀)
     × (length log-values ≡ length log-values₀) × (length escrow-values ≡ length escrow-values₀) × (size ≤ length out)
 
 abbrev μ-loop : tie.MeasureT-loop
-μ-loop b₀ log₀ escrow₀ heaps₀ shared₀ log-values₀ escrow-values₀ rest out₀ used₀ size₀ last₀ b log escrow heaps shared log-values escrow-values out used size last =
+μ-loop profile b₀ log₀ escrow₀ heaps₀ shared₀ log-values₀ escrow-values₀ rest out₀ used₀ size₀ last₀ b log escrow heaps shared log-values escrow-values out used size last =
     length rest - used
 
 loop-holds : tie.Need-loop-holds Inv-loop μ-loop
@@ -58,12 +58,12 @@ escrow-edited-requires c κs = c .before .before .before .before .before .before
 
 add-used : tie.Need-add-used Inv-loop μ-loop
 add-used c =
-    let most : length (c .before .before .before .before .before .before .before .before .before .before .before .before .before .before .before .before .before .before .before .before .before .before .before .before .before .before .before .before .before .before .before .args .rest .now) < 2 ^ 64 = omega (arith, c .before .before .before .before .before .before .before .before .before .before .before .before .before .before .before .before .before .before .before .before .before .before .before .before .before .before .before .before .before .before .before .good .1 .1 .1 .1 .1 .1 .1 .0 .1) in
+    let most : length (c .before .before .before .before .before .before .before .before .before .before .before .before .before .before .before .before .before .before .before .before .before .before .before .before .before .before .before .before .before .before .before .args .rest .now) < 2 ^ 64 = omega (arith, c .before .before .before .before .before .before .before .before .before .before .before .before .before .before .before .before .before .before .before .before .before .before .before .before .before .before .before .before .before .before .before .good .1 .1 .1 .1 .1 .1 .1 .1 .0 .1) in
     record { fits = omega (arith, further (c .before .before .before .before .before .before .before .before .before .before .before .before .before .before .before .before .before .before .before .before .before .before .before .before .loop .inv .0) (c .before .before .before .before .before .before .before .before .before .before .before .before .before .before .before .before .before .before .before .before .before .before .before .loop-test .taken) (c .before .before .before .before .before .before .before .before .before .before .before .before .before .before .before .before .before .before .before .before .before .before .if1 .left) refl (c .before .before .before .before .before .before .before .before .before .before .before .before .before .before .before .next-line .ensures .0), most) }
 
 add-size : tie.Need-add-size Inv-loop μ-loop
 add-size c =
-    let most : length (c .before .before .before .before .before .before .before .before .before .before .before .before .before .before .before .before .before .before .before .before .before .before .before .before .before .before .before .before .before .before .before .before .args .out .now) < 2 ^ 64 = omega (arith, c .before .before .before .before .before .before .before .before .before .before .before .before .before .before .before .before .before .before .before .before .before .before .before .before .before .before .before .before .before .before .before .before .good .1 .1 .1 .1 .1 .1 .1 .1 .0 .1) in
+    let most : length (c .before .before .before .before .before .before .before .before .before .before .before .before .before .before .before .before .before .before .before .before .before .before .before .before .before .before .before .before .before .before .before .before .args .out .now) < 2 ^ 64 = omega (arith, c .before .before .before .before .before .before .before .before .before .before .before .before .before .before .before .before .before .before .before .before .before .before .before .before .before .before .before .before .before .before .before .before .good .1 .1 .1 .1 .1 .1 .1 .1 .1 .0 .1) in
     record { fits = omega (arith, more-fits (c .before .before .before .before .before .before .before .before .before .before .before .before .before .before .before .before .before .before .before .before .before .before .before .before .before .loop .inv .0) (c .before .before .before .before .before .before .before .before .before .before .before .before .before .before .before .before .before .before .before .before .before .before .before .before .loop-test .taken) (c .before .before .before .before .before .before .before .before .before .before .before .before .before .before .before .before .before .before .before .before .before .before .before .if1 .left) refl (c .before .before .before .before .before .before .before .before .before .before .before .before .before .before .before .before .next-line .ensures .0), c .before .before .before .before .before .before .before .before .before .before .before .before .before .before .before .before .before .before .before .before .before .before .before .before .before .loop .inv .0 .front .whole, most) }
 
 loop-less : tie.Need-loop-less Inv-loop μ-loop

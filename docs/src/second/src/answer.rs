@@ -1,9 +1,10 @@
 //! Answers, and the codes and numbers of the refusals.
 
 /// Why a call, a record, a script or a writing was refused. Each case has its
-/// code in document 01, those of a chain in document 02, P3. 5, that one already
-/// runs, is retired since hand over (P1): no case has it, and the code stays
-/// reserved.
+/// code in document 01, those of a chain in document 02, P3, those of the
+/// level-one paper there in P5; the full box gives none of the latter. 5, that one
+/// already runs, is retired since hand over (P1): no case has it, and the code
+/// stays reserved.
 #[derive(Clone, Copy, Debug, PartialEq, Eq)]
 pub enum Refusal {
     /// The record ends before a field does, or is empty. So many more bytes
@@ -46,6 +47,13 @@ pub enum Refusal {
     BadChain,
     /// A link more, where sixteen have been followed.
     ChainTooLong,
+    /// Protect, retrieve or chain in the level-one paper.
+    NoEscrow,
+    /// The place of a create is above 3 in the level-one paper, or that of a hand
+    /// over other than 16.
+    PlaceTooHigh,
+    /// The identity has logged another value, in the level-one paper.
+    OtherValueLogged,
 }
 
 impl Refusal {
@@ -70,6 +78,9 @@ impl Refusal {
             Refusal::NoSuchLink => 18,
             Refusal::BadChain => 19,
             Refusal::ChainTooLong => 20,
+            Refusal::NoEscrow => 21,
+            Refusal::PlaceTooHigh => 22,
+            Refusal::OtherValueLogged => 23,
         }
     }
 
@@ -131,10 +142,13 @@ mod tests {
             NoSuchLink => 18,
             BadChain => 19,
             ChainTooLong => 20,
+            NoEscrow => 21,
+            PlaceTooHigh => 22,
+            OtherValueLogged => 23,
         }
     }
 
-    const REFUSALS: [Refusal; 19] = [
+    const REFUSALS: [Refusal; 22] = [
         Cut { missing: 7 },
         UnknownKind,
         WrongMap,
@@ -154,12 +168,15 @@ mod tests {
         NoSuchLink,
         BadChain,
         ChainTooLong,
+        NoEscrow,
+        PlaceTooHigh,
+        OtherValueLogged,
     ];
 
     /// The codes as the documents give them; 5 is not among them.
     #[test]
     fn codes() {
-        let codes = (1..=20).filter(|&code| code != 5);
+        let codes = (1..=23).filter(|&code| code != 5);
         assert!(REFUSALS.iter().map(|refusal| refusal.code()).eq(codes));
         assert!(REFUSALS.iter().all(|&refusal| refusal.code() == documented(refusal)));
     }

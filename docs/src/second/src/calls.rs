@@ -1,10 +1,13 @@
-//! The thirteen calls on a sound box. Each tests its refusals in rising order
-//! before it alters anything; a chain has an order of its own, link by link.
+//! The thirteen calls on a sound box, under a profile. Each tests its refusals in
+//! rising order before it alters anything; a chain has an order of its own, link by
+//! link. The level-one paper's refusals stand out of that order: 21 before 4, 22
+//! directly after 6, 23 directly after 11.
 
 use std::ops::Range;
 
 use crate::answer::{Answer, Refusal};
 use crate::chain::{head_of, take_value, Head, Link, LINKS_MAX, WAY_ESCROWED, WAY_LOGGED};
+use crate::profile::Profile;
 use crate::record::{read, Call};
 use crate::sound::is_sound;
 use crate::tables::{
@@ -16,8 +19,17 @@ use crate::tags::{free_handle, tag_of, Draw, Handle, Tag, DRAW_LIMIT};
 /// Reads a record and makes its call. A lent buffer of a wrong size or an
 /// unsound box is refused first, with 15.
 pub fn call(tables: &mut Tables, output: &mut [u8], record: &[u8]) -> Answer {
+    call_under(Profile::Full, tables, output, record)
+}
+
+/// As [`call`], in the level-one paper.
+pub fn call_level_one(tables: &mut Tables, output: &mut [u8], record: &[u8]) -> Answer {
+    call_under(Profile::LevelOne, tables, output, record)
+}
+
+fn call_under(profile: Profile, tables: &mut Tables, output: &mut [u8], record: &[u8]) -> Answer {
     match SoundBox::new(tables, output) {
-        Ok(mut sound_box) => sound_box.run(record),
+        Ok(mut sound_box) => sound_box.under(profile).run(record),
         Err(refusal) => Answer::refused(refusal, 0),
     }
 }
@@ -25,6 +37,7 @@ pub fn call(tables: &mut Tables, output: &mut [u8], record: &[u8]) -> Answer {
 /// A box found sound, in buffers of their sizes. No call makes it unsound, so
 /// many can follow one test.
 pub struct SoundBox<'a> {
+    profile: Profile,
     record: &'a mut BoxRecord,
     heaps: &'a mut [u8; HEAPS_SIZE],
     shared: &'a mut [u8; SHARED_SIZE],
@@ -36,13 +49,14 @@ pub struct SoundBox<'a> {
 }
 
 impl<'a> SoundBox<'a> {
-    /// Tests sizes and soundness; refusal 15.
+    /// Tests sizes and soundness; refusal 15. Calls are the full box's.
     pub fn new(tables: &'a mut Tables<'_>, output: &'a mut [u8]) -> Result<Self, Refusal> {
         let output = sized(output)?;
         if !is_sound(tables) {
             return Err(Refusal::Unsound);
         }
         Ok(SoundBox {
+            profile: Profile::Full,
             record: &mut tables.record,
             heaps: sized(tables.heaps)?,
             shared: sized(tables.shared)?,
@@ -52,6 +66,21 @@ impl<'a> SoundBox<'a> {
             escrow_values: sized(tables.escrow_values)?,
             output,
         })
+    }
+
+    /// The same box with its calls under a profile.
+    pub fn under(&mut self, profile: Profile) -> SoundBox<'_> {
+        SoundBox {
+            profile,
+            record: self.record,
+            heaps: self.heaps,
+            shared: self.shared,
+            log: self.log,
+            log_values: self.log_values,
+            escrow: self.escrow,
+            escrow_values: self.escrow_values,
+            output: self.output,
+        }
     }
 
     /// The output buffer.
@@ -65,6 +94,11 @@ impl<'a> SoundBox<'a> {
             Ok((call, used)) => Answer { used, ..self.perform(&call) },
             Err(refusal) => Answer::refused(refusal, 0),
         }
+    }
+
+    /// As [`run`](Self::run), in the level-one paper.
+    pub fn run_level_one(&mut self, record: &[u8]) -> Answer {
+        self.under(Profile::LevelOne).run(record)
     }
 
     /// Makes a call. No record is read, so bytes used is 0.
@@ -110,6 +144,7 @@ impl<'a> SoundBox<'a> {
     /// 1: takes an empty place; the place.
     pub fn create(&mut self, place: Place, identity: Identity) -> Result<Place, Refusal> {
         let index = index_of(place)?;
+        self.profile.has_place(index)?;
         if self.record.is_taken(index) {
             return Err(Refusal::PlaceTakenOrEmpty);
         }
@@ -169,11 +204,8 @@ impl<'a> SoundBox<'a> {
         let value = &heap_of(self.heaps, place)[part];
         let rows = usize::from(self.record.log_rows);
         let bytes = usize::from(self.record.log_bytes);
-        let logged = self.log[..rows]
-            .iter()
-            .find(|row| row.identity == identity && row.value(self.log_values) == value);
-        if let Some(row) = logged {
-            return Ok(row.tag);
+        if let Some(tag) = self.logged(identity, value)? {
+            return Ok(tag);
         }
         if rows == ROWS || bytes + value.len() > VALUES_SIZE {
             return Err(Refusal::LogFull);
@@ -184,6 +216,22 @@ impl<'a> SoundBox<'a> {
         self.record.log_rows += 1;
         self.record.log_bytes += length;
         Ok(tag)
+    }
+
+    /// The tag of a pair already logged, none if it isn't, or refusal 23.
+    fn logged(&self, identity: Identity, value: &[u8]) -> Result<Option<Tag>, Refusal> {
+        let mut logged = None;
+        let used = &self.log[..usize::from(self.record.log_rows)];
+        for row in used.iter().filter(|row| row.identity == identity) {
+            match (self.profile, row.value(self.log_values) == value) {
+                (Profile::Full, true) => return Ok(Some(row.tag)),
+                (Profile::Full, false) => {}
+                // A hand-made box may have another value further on.
+                (Profile::LevelOne, true) => logged = Some(row.tag),
+                (Profile::LevelOne, false) => return Err(Refusal::OtherValueLogged),
+            }
+        }
+        Ok(logged)
     }
 
     /// 10: whether (identity, bytes, tag) is a log row. One of more than 256
@@ -204,6 +252,7 @@ impl<'a> SoundBox<'a> {
         length: u16,
         draw: Draw,
     ) -> Result<Handle, Refusal> {
+        self.profile.has_escrow()?;
         let place = self.running()?;
         non_zero(identity)?;
         let part = part(offset, usize::from(length), HEAP_SIZE)?;
@@ -238,6 +287,7 @@ impl<'a> SoundBox<'a> {
         offset: u16,
         handle: Handle,
     ) -> Result<u16, Refusal> {
+        self.profile.has_escrow()?;
         let place = self.running()?;
         non_zero(identity)?;
         let recipient = self.record.identities[place];
@@ -258,8 +308,12 @@ impl<'a> SoundBox<'a> {
     /// 14: yields what runs, its heap retained, and starts that place. Place 16
     /// only yields: it has no identity, so it is neither taken nor empty.
     pub fn hand_over(&mut self, place: Place) -> Result<(), Refusal> {
-        if place != NONE_RUNS && !self.record.is_taken(index_of(place)?) {
-            return Err(Refusal::PlaceTakenOrEmpty);
+        if place != NONE_RUNS {
+            let index = index_of(place)?;
+            self.profile.has_place(index)?;
+            if !self.record.is_taken(index) {
+                return Err(Refusal::PlaceTakenOrEmpty);
+            }
         }
         self.record.running = place;
         Ok(())
@@ -272,6 +326,7 @@ impl<'a> SoundBox<'a> {
     /// Open: document 02 doesn't say whether a first way of 1 is a chain of no links.
     /// Here it isn't 2 or 3, so it is 19.
     pub fn chain(&self, first: Link, bytes: &[u8]) -> Result<u64, Refusal> {
+        self.profile.has_escrow()?;
         let recipient = self.record.identities[self.running()?];
         let mut rest = bytes;
         let mut link = first;

@@ -1,12 +1,14 @@
-//! The box of document 01, amended by requests P1 to P3 of document 02: places
-//! with heaps, shared memory, a log and an escrow, worked by thirteen calls. A
-//! second program, written from those documents alone.
+//! The box of document 01, amended by requests P1 to P3 and P5 of document 02:
+//! places with heaps, shared memory, a log and an escrow, worked by thirteen calls,
+//! as the full box or as the level-one paper (P5). P4 altered no answer. A second
+//! program, written from those documents alone.
 
 #![forbid(unsafe_code)]
 
 mod answer;
 mod calls;
 mod chain;
+mod profile;
 mod record;
 mod sheet;
 mod sound;
@@ -14,10 +16,11 @@ mod tables;
 mod tags;
 
 pub use answer::{Answer, Refusal};
-pub use calls::{call, SoundBox};
+pub use calls::{call, call_level_one, SoundBox};
 pub use chain::{Link, LINKS_MAX, WAY_END, WAY_ESCROWED, WAY_LOGGED};
+pub use profile::Profile;
 pub use record::{read, write, write_call, Call, Fields, Kind, Written};
-pub use sheet::{sheet, HEADER, SCRIPT_MAX};
+pub use sheet::{sheet, sheet_level_one, HEADER, SCRIPT_MAX};
 pub use sound::{has_its_sizes, is_sound};
 pub use tables::{
     BoxRecord, EscrowRow, Host, Identity, LogRow, Place, Tables, HEAPS_SIZE, HEAP_SIZE, NONE_RUNS,

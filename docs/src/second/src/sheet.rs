@@ -4,6 +4,7 @@ use std::io::Write;
 
 use crate::answer::{Answer, Refusal};
 use crate::calls::SoundBox;
+use crate::profile::Profile;
 use crate::tables::{Host, OUTPUT_SIZE};
 
 pub const HEADER: &[u8] = b"code number used bytes\n";
@@ -15,6 +16,15 @@ pub const SCRIPT_MAX: usize = 65_536;
 /// then a line a record. It stops when no input is left, or after a line with
 /// 1, 2 or 3.
 pub fn sheet(script: &[u8]) -> Vec<u8> {
+    sheet_under(Profile::Full, script)
+}
+
+/// As [`sheet`], in the level-one paper.
+pub fn sheet_level_one(script: &[u8]) -> Vec<u8> {
+    sheet_under(Profile::LevelOne, script)
+}
+
+fn sheet_under(profile: Profile, script: &[u8]) -> Vec<u8> {
     let mut sheet = HEADER.to_vec();
     if script.len() > SCRIPT_MAX {
         put_line(&mut sheet, &Answer::refused(Refusal::ScriptTooLong, 0), &[]);
@@ -25,6 +35,7 @@ pub fn sheet(script: &[u8]) -> Vec<u8> {
     let mut output = [0; OUTPUT_SIZE];
     // Soundness is tested once: the fresh box is sound and calls keep it so.
     let mut sound_box = SoundBox::new(&mut tables, &mut output).expect("a fresh box is sound");
+    let mut sound_box = sound_box.under(profile);
     let mut rest = script;
     while !rest.is_empty() {
         let answer = sound_box.run(rest);

@@ -133,7 +133,7 @@ mod tests {
     use crate::record::{write_call, Call};
     use crate::tables::{Host, OUTPUT_SIZE};
     use crate::tags::{Draw, Handle, Tag, DRAW_LIMIT};
-    use crate::{call, Answer};
+    use crate::{call, call_level_one, Answer};
 
     fn make(host: &mut Host, call: Call) {
         let mut record = [0; 600];
@@ -166,18 +166,20 @@ mod tests {
         }
     }
 
-    /// The box isn't sound, and each call on it is 15, empty record included,
-    /// and alters nothing.
+    /// The box isn't sound, and each call on it is 15 under either profile, empty
+    /// record included, and alters nothing.
     fn refused(mut host: Host) {
         assert!(!is_sound(&host.lend()));
         let before = host.clone();
-        let records: [&[u8]; 5] = [&[], &[2], &[1, 13], &[1, 3], &[3, 14, 16]];
+        let records: [&[u8]; 6] = [&[], &[2], &[1, 13], &[1, 3], &[3, 14, 16], &[3, 14, 4]];
         for record in records {
-            let mut output = [7; OUTPUT_SIZE];
-            let answer = host.call(&mut output, record);
-            assert_eq!(answer, Answer { code: 15, ..Answer::default() });
-            assert!(output.iter().all(|&byte| byte == 7));
-            assert!(host == before);
+            for call in [Host::call, Host::call_level_one] {
+                let mut output = [7; OUTPUT_SIZE];
+                let answer = call(&mut host, &mut output, record);
+                assert_eq!(answer, Answer { code: 15, ..Answer::default() });
+                assert!(output.iter().all(|&byte| byte == 7));
+                assert!(host == before);
+            }
         }
     }
 
@@ -217,12 +219,14 @@ mod tests {
         wrong(|host| &mut host.escrow);
         wrong(|host| &mut host.escrow_values);
         for size in [0, 1, 1_023, 1_025, 4_096] {
-            let mut host = busy();
-            let mut output = vec![7; size];
-            let answer = call(&mut host.lend(), &mut output, &[1, 13]);
-            assert_eq!(answer, Answer { code: 15, ..Answer::default() });
-            assert!(output.iter().all(|&byte| byte == 7));
-            assert!(host == busy());
+            for call in [call, call_level_one] {
+                let mut host = busy();
+                let mut output = vec![7; size];
+                let answer = call(&mut host.lend(), &mut output, &[1, 13]);
+                assert_eq!(answer, Answer { code: 15, ..Answer::default() });
+                assert!(output.iter().all(|&byte| byte == 7));
+                assert!(host == busy());
+            }
         }
     }
 

@@ -156,4 +156,12 @@ impl Host {
         self.record = tables.record;
         answer
     }
+
+    /// As [`call`](Self::call), in the level-one paper.
+    pub fn call_level_one(&mut self, output: &mut [u8], record: &[u8]) -> crate::Answer {
+        let mut tables = self.lend();
+        let answer = crate::call_level_one(&mut tables, output, record);
+        self.record = tables.record;
+        answer
+    }
 }

@@ -4,7 +4,12 @@ use std::io::Write;
 use std::process::{Command, Stdio};
 
 fn run(script: &[u8]) -> Vec<u8> {
+    run_with(&[], script)
+}
+
+fn run_with(arguments: &[&str], script: &[u8]) -> Vec<u8> {
     let mut child = Command::new(env!("CARGO_BIN_EXE_second"))
+        .args(arguments)
         .stdin(Stdio::piped())
         .stdout(Stdio::piped())
         .spawn()
@@ -33,7 +38,45 @@ fn scripts_at_the_limit() {
         let script: Vec<u8> = [1, 13].into_iter().cycle().take(length).collect();
         let printed = run(&script);
         assert_eq!(printed, second::sheet(&script));
+        assert_eq!(run_with(&["--level-one"], &script), printed);
         let too_long = b"code number used bytes\n16 0 0 -\n";
         assert_eq!(printed == too_long, length == 65_537);
+    }
+}
+
+/// Place 4 is the full box's alone.
+#[test]
+fn prints_the_level_one_sheet() {
+    let scripts: [&[u8]; 4] = [&[], &[1], &[3, 14, 4, 1, 13], &[3, 14, 4, 3, 14]];
+    for script in scripts {
+        assert_eq!(run_with(&["--level-one"], script), second::sheet_level_one(script));
+    }
+    assert_eq!(run(scripts[2]), b"code number used bytes\n7 0 3 -\n0 0 2 -\n");
+    let printed = run_with(&["--level-one"], scripts[2]);
+    assert_eq!(printed, b"code number used bytes\n22 0 3 -\n0 0 2 -\n");
+}
+
+#[test]
+fn any_other_argument_gets_the_usage() {
+    let cases: [&[&str]; 9] = [
+        &[""],
+        &["-"],
+        &["--"],
+        &["--level-on"],
+        &["--level-one "],
+        &["--Level-One"],
+        &["--full"],
+        &["--level-one", "--level-one"],
+        &["--level-one", ""],
+    ];
+    for arguments in cases {
+        let output = Command::new(env!("CARGO_BIN_EXE_second"))
+            .args(arguments)
+            .stdin(Stdio::null())
+            .output()
+            .unwrap();
+        assert_eq!(output.status.code(), Some(2), "{arguments:?}");
+        assert!(output.stdout.is_empty());
+        assert_eq!(output.stderr, b"usage: second [--level-one]\n");
     }
 }

@@ -1,6 +1,6 @@
 //! Document 01's exam cases, traps, boundaries and order of refusals, the hand
-//! overs of document 02's P1, the missing bytes of its P2 and the chains of its
-//! P3, through the library's own doors.
+//! overs of document 02's P1, the missing bytes of its P2, the chains of its P3 and
+//! the level-one paper of its P5, through the library's own doors.
 
 use second::*;
 
@@ -14,17 +14,48 @@ fn record_of(call: &Call) -> Vec<u8> {
     record
 }
 
+/// 21, 22 or 23 where document 02's P5 wants it, from the box before the call and
+/// the full box's code.
+fn level_one_code(host: &Host, record: &[u8], full: u8) -> Option<u8> {
+    let is_read = !matches!(full, 1 | 2 | 3 | 15);
+    match record.get(1)? {
+        _ if !is_read => None,
+        11 | 12 | 15 => Some(21),
+        1 if (4..=15).contains(&record[2]) => Some(22),
+        14 if (4..=15).contains(&record[2]) => Some(22),
+        9 if full != 4 && full != 11 && logged_another(host, record) => Some(23),
+        _ => None,
+    }
+}
+
+/// Whether the running identity has a log row with another value than this attest's.
+fn logged_another(host: &Host, record: &[u8]) -> bool {
+    let number = |first: usize| usize::from(record[first]) + 256 * usize::from(record[first + 1]);
+    let running = usize::from(host.record.running);
+    let value = &host.heaps[256 * running + number(2)..][..number(4)];
+    host.log.iter().any(|row| {
+        let (first, length) = (usize::from(row.first), usize::from(row.length));
+        row.identity == host.record.identities[running]
+            && host.log_values[first..first + length] != *value
+    })
+}
+
 /// A host with its output buffer, which tests at each call what holds of all:
 /// the box stays sound, a refusal and a chain alter nothing, 1 is the only refusal
-/// with a number other than 0 and never has 0, only reads touch the output.
+/// with a number other than 0 and never has 0, only reads touch the output. Each
+/// call is made under both profiles: the full box never gives 21, 22 or 23, the
+/// level-one paper gives them where it should, and else the two are one.
 struct Bench {
     host: Host,
     output: Vec<u8>,
+    /// Whose answer and state are kept.
+    profile: Profile,
 }
 
 impl Bench {
     fn fresh() -> Self {
-        Bench { host: Host::fresh(), output: vec![0xEE; OUTPUT_SIZE] }
+        let output = vec![0xEE; OUTPUT_SIZE];
+        Bench { host: Host::fresh(), output, profile: Profile::Full }
     }
 
     /// With identities 1, 2 and 3 in places 0, 1 and 2, place 0 running.
@@ -37,10 +68,39 @@ impl Bench {
         bench
     }
 
+    /// As busy, under the level-one profile, which such a box could come from.
+    fn level_one() -> Self {
+        Bench { profile: Profile::LevelOne, ..Bench::busy() }
+    }
+
+    /// Makes the call under each profile and keeps what the bench's own gives.
+    fn under_both(&mut self, record: &[u8]) -> Answer {
+        let (mut host, mut output) = (self.host.clone(), self.output.clone());
+        let full = host.call(&mut output, record);
+        assert!(!(21..=23).contains(&full.code));
+        let wanted = match level_one_code(&self.host, record, full.code) {
+            Some(code) => Answer { code, number: 0, used: full.used, shown: 0 },
+            None => full,
+        };
+        let (mut lower, mut lower_output) = (self.host.clone(), self.output.clone());
+        assert_eq!(lower.call_level_one(&mut lower_output, record), wanted);
+        if wanted == full {
+            assert!(lower == host && lower_output == output);
+        } else {
+            assert!(lower == self.host && lower_output == self.output);
+        }
+        let (answer, host, output) = match self.profile {
+            Profile::Full => (full, host, output),
+            Profile::LevelOne => (wanted, lower, lower_output),
+        };
+        (self.host, self.output) = (host, output);
+        answer
+    }
+
     fn raw(&mut self, record: &[u8]) -> Answer {
         let host = self.host.clone();
         let output = self.output.clone();
-        let answer = self.host.call(&mut self.output, record);
+        let answer = self.under_both(record);
         assert!(is_sound(&self.host.lend()));
         assert!(self.output[answer.shown..] == output[answer.shown..]);
         if answer.code != 0 {
@@ -957,6 +1017,369 @@ fn an_entry_that_reads_no_record_uses_none() {
     assert_eq!(sound_box.perform(&Call::Exit), Answer { code: 4, ..Answer::default() });
 }
 
+// The level-one paper.
+
+/// One record of each kind that escrow is needed for, faults in every field: none
+/// runs, identity 0, beyond the heap, too large a draw, no such row, a bad way.
+fn escrow_calls() -> [Call<'static>; 3] {
+    [
+        Call::Protect { identity: 0, offset: 300, length: 1, draw: Draw(u64::MAX) },
+        Call::Retrieve { identity: 0, offset: 300, handle: Handle(1) },
+        Call::Chain { first: Link { way: 0, identity: 0, number: 0 }, bytes: b"\x01" },
+    ]
+}
+
+/// 21 comes before 4, 9, 12 and all the others of these kinds.
+#[test]
+fn level_one_has_no_escrow() {
+    let mut bench = Bench::level_one();
+    for running in [NONE_RUNS, 0] {
+        bench.switch(running);
+        for call in escrow_calls() {
+            bench.refuse(21, call);
+        }
+        for identity in [0, 1, 2] {
+            for draw in [Draw(0), Draw(LAST_DRAW), Draw(DRAW_LIMIT)] {
+                for (offset, length) in [(0, 0), (0, 1), (256, 1)] {
+                    bench.refuse(21, Call::Protect { identity, offset, length, draw });
+                }
+            }
+            bench.refuse(21, Call::Retrieve { identity, offset: 0, handle: Handle(0) });
+            for way in [0, 1, 2, 3, 4, 255] {
+                let first = Link { way, identity, number: 0 };
+                bench.chain(21, first, b"");
+                bench.chain(21, first, b"\x01\x00\x01");
+            }
+        }
+    }
+    assert_eq!(bench.accept(Call::Report), 3);
+}
+
+/// What the full box would accept, refuse with 14 or follow to 20 is 21 all the same.
+#[test]
+fn level_one_has_no_escrow_on_a_full_escrow() {
+    let mut bench = Bench::busy();
+    let handle = Handle(bench.protect(1, 0, 1, 7));
+    let logged = bench.put_link(WAY_LOGGED, &[1]);
+    let (escrowed, _) = bench.put_chain(&[WAY_ESCROWED], 17);
+    let protect = Call::Protect { identity: 1, offset: 0, length: 0, draw: Draw(0) };
+    let retrieve = Call::Retrieve { identity: 1, offset: 0, handle };
+    let follow = Call::Chain { first: logged, bytes: b"\x01\x00\x01" };
+    let too_long = Call::Chain { first: escrowed, bytes: b"" };
+    for _ in 18..64 {
+        bench.accept(protect);
+    }
+    let cases = [(14, protect), (0, retrieve), (0, follow), (20, too_long)];
+    for (code, call) in cases {
+        bench.profile = Profile::LevelOne;
+        bench.refuse(21, call);
+        bench.profile = Profile::Full;
+        assert_eq!(bench.go(call).code, code);
+    }
+    // The report still counts what is there.
+    bench.profile = Profile::LevelOne;
+    assert_eq!(bench.accept(Call::Report), 3 + 256 + 65_536 * 64);
+}
+
+/// 1, 2 and 3 come before 21: the record has to be read whole. So does 15.
+#[test]
+fn level_one_reads_the_record_first() {
+    let mut bench = Bench::level_one();
+    for call in escrow_calls() {
+        let record = record_of(&call);
+        for end in 0..record.len() {
+            let answer = bench.raw(&record[..end]);
+            assert_eq!((answer.code, answer.used), (1, 0));
+        }
+        let [map, kind] = [record[0], record[1]];
+        for (code, map, kind) in
+            [(2, map & !1, kind), (2, map, 16), (2, map, 2), (3, map ^ 8, kind)]
+        {
+            let faulty = [&[map, kind], &record[2..]].concat();
+            assert_eq!(bench.raw(&faulty), Answer { code, ..Answer::default() });
+        }
+        let unsound = Answer { code: 15, ..Answer::default() };
+        let mut host = bench.host.clone();
+        assert_eq!(host.call_level_one(&mut [0; 1_025], &record), unsound);
+        host.record.running = 3;
+        assert_eq!(host.call_level_one(&mut [0; 1_024], &record), unsound);
+        // Bytes behind the record are not its own.
+        let longer = [&record[..], &[0xFF; 9]].concat();
+        let wanted = Answer { code: 21, used: record.len(), ..Answer::default() };
+        assert_eq!(bench.raw(&longer), wanted);
+    }
+}
+
+/// A create at each byte, of a place that is empty or taken, with an identity and
+/// without: 6, then 22, then 7, then 9.
+#[test]
+fn level_one_creates_at_places_0_to_3() {
+    let mut bench = Bench::fresh();
+    let empty = bench.host.clone();
+    for place in 0..16 {
+        bench.accept(Call::Create { place, identity: 1 });
+    }
+    let taken = bench.host.clone();
+    bench.profile = Profile::LevelOne;
+    for place in 0..=255 {
+        for (host, identity) in [(&empty, 1), (&empty, 0), (&taken, 1), (&taken, 0)] {
+            bench.host = host.clone();
+            let code = match place {
+                16..=255 => 6,
+                4..=15 => 22,
+                _ if host == &taken => 7,
+                _ if identity == 0 => 9,
+                _ => 0,
+            };
+            let answer = bench.go(Call::Create { place, identity });
+            let number = if code == 0 { u64::from(place) } else { 0 };
+            assert_eq!((answer.code, answer.number), (code, number), "{place}");
+        }
+    }
+}
+
+/// A hand over from each place, taken or none, to each byte: 6, then 22, though it be
+/// to the running place, then 7. To 16 is accepted.
+#[test]
+fn level_one_hands_over_to_places_0_to_3() {
+    let mut bench = Bench::fresh();
+    for place in (0..16).step_by(2) {
+        bench.accept(Call::Create { place, identity: u64::from(place) + 1 });
+    }
+    bench.profile = Profile::LevelOne;
+    for running in (0..=16).step_by(2) {
+        for place in 0..=255 {
+            bench.host.record.running = running;
+            let code = match place {
+                17..=255 => 6,
+                4..=15 => 22,
+                1 | 3 => 7,
+                _ => 0,
+            };
+            let answer = bench.go(Call::HandOver { place });
+            assert_eq!((answer.code, answer.number), (code, 0), "{running} to {place}");
+            let now = if code == 0 { place } else { running };
+            assert_eq!(bench.host.record.running, now);
+        }
+    }
+}
+
+/// A service above 3 that a hand-made box has is let work, yield, and exit.
+#[test]
+fn level_one_lets_a_high_place_work() {
+    let mut bench = Bench::busy();
+    bench.accept(Call::Create { place: 15, identity: 9 });
+    bench.switch(15);
+    bench.profile = Profile::LevelOne;
+    bench.put(250, b"abcdef");
+    assert_eq!(bench.get(249, 7), b"\0abcdef");
+    bench.refuse(11, Call::HeapWrite { place: 15, offset: 251, bytes: b"abcdef" });
+    bench.refuse(8, Call::HeapWrite { place: 14, offset: 0, bytes: b"a" });
+    bench.refuse(6, Call::HeapRead { place: 16, offset: 0, length: 1 });
+    let tag = bench.accept(Call::Attest { offset: 250, length: 6 });
+    assert_eq!(bench.check(9, b"abcdef", tag), 1);
+    bench.refuse(23, Call::Attest { offset: 250, length: 5 });
+    bench.refuse(22, Call::HandOver { place: 15 });
+    bench.refuse(22, Call::Create { place: 15, identity: 0 });
+    assert_eq!(bench.accept(Call::Report), 4 + 256);
+    bench.switch(16);
+    bench.refuse(22, Call::HandOver { place: 15 });
+    bench.host.record.running = 15;
+    assert_eq!(bench.accept(Call::Exit), 0);
+    assert!(bench.host.heaps.iter().all(|&byte| byte == 0));
+    bench.refuse(22, Call::Create { place: 15, identity: 9 });
+    bench.refuse(22, Call::HandOver { place: 15 });
+}
+
+/// One value for each identity; it may come again. Others' values don't count.
+#[test]
+fn level_one_logs_one_value_for_each_identity() {
+    let mut bench = Bench::level_one();
+    bench.put(0, b"abab");
+    let attest = |offset, length| Call::Attest { offset, length };
+    let tag = tag_of(1, b"ab").0;
+    assert_eq!(bench.accept(attest(0, 2)), tag);
+    // Wherever it stands, it is the same value, and no row is added.
+    assert_eq!(bench.accept(attest(2, 2)), tag);
+    for (offset, length) in [(0, 0), (0, 1), (0, 3), (1, 2), (3, 2), (0, 256), (256, 0)] {
+        bench.refuse(23, attest(offset, length));
+    }
+    assert_eq!(bench.accept(Call::Report), 3 + 256);
+    // 4 and 11 come before.
+    bench.refuse(11, attest(255, 2));
+    bench.refuse(11, attest(257, 0));
+    bench.switch(16);
+    bench.refuse(4, attest(0, 2));
+    bench.refuse(4, attest(0, 1));
+    // Another identity has its own value, which may be the same or another.
+    for (place, value) in [(1, b"ab"), (2, b"xy")] {
+        bench.switch(place);
+        bench.put(0, value);
+        let own = tag_of(u64::from(place) + 1, value).0;
+        for _ in 0..2 {
+            assert_eq!(bench.accept(attest(0, 2)), own);
+        }
+        bench.refuse(23, attest(0, 1));
+    }
+    assert_eq!(bench.accept(Call::Report), 3 + 256 * 3);
+    bench.switch(0);
+    assert_eq!(bench.accept(attest(0, 2)), tag);
+    bench.refuse(23, attest(0, 1));
+}
+
+/// The empty value is a value, first or second.
+#[test]
+fn level_one_counts_the_empty_value() {
+    let mut bench = Bench::level_one();
+    for offset in [0, 256, 7] {
+        let tag = bench.accept(Call::Attest { offset, length: 0 });
+        assert_eq!(tag, tag_of(1, b"").0);
+    }
+    bench.refuse(23, Call::Attest { offset: 0, length: 1 });
+    bench.refuse(23, Call::Attest { offset: 0, length: 256 });
+    bench.refuse(11, Call::Attest { offset: 257, length: 0 });
+    assert_eq!(bench.accept(Call::Report), 3 + 256);
+    bench.switch(1);
+    bench.accept(Call::Attest { offset: 0, length: 1 });
+    bench.refuse(23, Call::Attest { offset: 0, length: 0 });
+}
+
+/// Two places of one identity are one principal, and what it logged outlasts both.
+#[test]
+fn level_one_knows_an_identity_in_another_place() {
+    let mut bench = Bench::level_one();
+    bench.accept(Call::Attest { offset: 0, length: 1 });
+    bench.accept(Call::Create { place: 3, identity: 1 });
+    for _ in 0..2 {
+        bench.switch(3);
+        bench.refuse(23, Call::Attest { offset: 0, length: 2 });
+        assert_eq!(bench.accept(Call::Attest { offset: 9, length: 1 }), tag_of(1, &[0]).0);
+        bench.accept(Call::Exit);
+        bench.accept(Call::Create { place: 3, identity: 1 });
+    }
+    bench.switch(0);
+    bench.accept(Call::Exit);
+    bench.accept(Call::Create { place: 0, identity: 4 });
+    bench.switch(0);
+    bench.accept(Call::Attest { offset: 0, length: 2 });
+}
+
+/// On a hand-made box the identity may have this value and another too, in either
+/// order and with others' rows between. The full box gives the tag.
+#[test]
+fn level_one_refuses_a_pair_logged_beside_another() {
+    for values in [[&b"a"[..], b"b"], [b"b", b"a"], [b"a", b""], [b"", b"a"]] {
+        let mut bench = Bench::busy();
+        for (n, value) in values.iter().enumerate() {
+            bench.switch(0);
+            bench.put_link(WAY_LOGGED, value);
+            bench.switch(1 + n as u8);
+            bench.put_link(WAY_LOGGED, b"a");
+        }
+        assert_eq!(bench.host.record.log_rows, 4);
+        bench.switch(0);
+        for value in values {
+            bench.put(0, value);
+            let attest = Call::Attest { offset: 0, length: value.len() as u16 };
+            bench.profile = Profile::LevelOne;
+            bench.refuse(23, attest);
+            bench.profile = Profile::Full;
+            assert_eq!(bench.accept(attest), tag_of(1, value).0);
+        }
+        // Its own only row gives the tag.
+        bench.profile = Profile::LevelOne;
+        bench.switch(1);
+        assert_eq!(bench.accept(Call::Attest { offset: 0, length: 1 }), tag_of(2, b"a").0);
+    }
+}
+
+/// 64 identities fill the log, one after another in place 3: 23 comes before 13.
+#[test]
+fn level_one_and_a_log_of_64_rows() {
+    let mut bench = Bench::level_one();
+    let attest = Call::Attest { offset: 0, length: 1 };
+    let other = Call::Attest { offset: 0, length: 2 };
+    bench.switch(16);
+    for identity in 1..=64 {
+        bench.accept(Call::Create { place: 3, identity });
+        bench.switch(3);
+        bench.put(0, b"v");
+        assert_eq!(bench.accept(attest), tag_of(identity, b"v").0);
+        bench.refuse(23, other);
+        bench.accept(Call::Exit);
+    }
+    assert_eq!(bench.accept(Call::Report), 3 + 256 * 64);
+    for identity in [1, 64, 65] {
+        bench.accept(Call::Create { place: 3, identity });
+        bench.switch(3);
+        bench.put(0, b"v");
+        for (offset, length) in [(0, 1), (0, 0), (0, 2), (256, 1)] {
+            let code = match (offset, length, identity) {
+                (256, ..) => 11,
+                (_, _, 65) => 13,
+                (_, 1, _) => 0,
+                _ => 23,
+            };
+            assert_eq!(bench.go(Call::Attest { offset, length }).code, code);
+        }
+        bench.accept(Call::Exit);
+    }
+}
+
+/// The same with the value bytes used up.
+#[test]
+fn level_one_and_a_log_of_4096_bytes() {
+    let mut bench = Bench::level_one();
+    let attest = |length| Call::Attest { offset: 0, length };
+    bench.switch(16);
+    for identity in 1..=17 {
+        bench.accept(Call::Create { place: 3, identity });
+        bench.switch(3);
+        if identity == 17 {
+            bench.refuse(13, attest(256));
+            bench.refuse(13, attest(1));
+            bench.accept(attest(0));
+            bench.refuse(23, attest(1));
+        } else {
+            bench.accept(attest(256));
+            bench.refuse(23, attest(255));
+            bench.refuse(23, attest(0));
+        }
+        bench.accept(Call::Exit);
+    }
+    assert_eq!(bench.host.record.log_bytes, 4_096);
+}
+
+/// One sound box serves both profiles, call by call. A call that reads no record
+/// uses none, though it be refused with one of the three.
+#[test]
+fn profiles_take_turns_on_one_box() {
+    let mut host = Host::fresh();
+    let mut tables = host.lend();
+    let mut output = [0; OUTPUT_SIZE];
+    let mut sound_box = SoundBox::new(&mut tables, &mut output).unwrap();
+    let create = record_of(&Call::Create { place: 4, identity: 1 });
+    let code = |code, used| Answer { code, used, ..Answer::default() };
+    assert_eq!(sound_box.run_level_one(&create), code(22, 11));
+    assert_eq!(sound_box.run(&create), Answer { number: 4, ..code(0, 11) });
+    assert_eq!(sound_box.run_level_one(&[3, 14, 4]), code(22, 3));
+    assert_eq!(sound_box.run(&[3, 14, 4]), code(0, 3));
+    assert_eq!(sound_box.run_level_one(&[1]), Answer { number: 1, ..code(1, 0) });
+    let [one, two] = [1, 2].map(|length| Call::Attest { offset: 0, length });
+    assert_eq!(sound_box.run_level_one(&record_of(&one)).code, 0);
+    assert_eq!(sound_box.run_level_one(&record_of(&two)), code(23, 6));
+    let mut level_one = sound_box.under(Profile::LevelOne);
+    assert_eq!(level_one.perform(&two), code(23, 0));
+    assert_eq!(level_one.run(&[3, 14, 4]), code(22, 3));
+    for call in escrow_calls() {
+        assert_eq!(level_one.perform(&call), code(21, 0));
+    }
+    assert_eq!(level_one.under(Profile::Full).run(&[3, 14, 4]), code(0, 3));
+    assert_eq!(sound_box.run(&record_of(&two)).code, 0);
+    assert_eq!(sound_box.run_level_one(&record_of(&one)), code(23, 6));
+    assert_eq!(sound_box.perform(&escrow_calls()[0]), code(9, 0));
+}
+
 // The answer sheet.
 
 /// Document 01's example with hand overs, to place 0 and to 16, and an exit with
@@ -975,6 +1398,10 @@ fn sheet_text(script: &[u8]) -> String {
     String::from_utf8(sheet(script)).unwrap()
 }
 
+fn level_one_text(script: &[u8]) -> String {
+    String::from_utf8(sheet_level_one(script)).unwrap()
+}
+
 #[test]
 fn example_sheet() {
     let expected = "\
@@ -988,6 +1415,42 @@ code number used bytes
 4 0 2 -
 ";
     assert_eq!(sheet_text(&EXAMPLE.concat()), expected);
+}
+
+/// The sheet goes on after 21, 22 and 23.
+#[test]
+fn level_one_sheet() {
+    let mut script = EXAMPLE.concat();
+    script.extend(record_of(&Call::Create { place: 4, identity: 1 }));
+    script.extend(record_of(&Call::HandOver { place: 15 }));
+    script.extend(record_of(&Call::HandOver { place: 0 }));
+    script.extend(record_of(&Call::Attest { offset: 0, length: 0 }));
+    script.extend(record_of(&Call::Attest { offset: 0, length: 1 }));
+    script.extend(record_of(&Call::HeapRead { place: 0, offset: 0, length: 2 }));
+    script.extend(record_of(&Call::Report));
+    script.extend([0x67, 0x0F, 2]);
+    let expected = format!(
+        "\
+code number used bytes
+0 0 11 -
+0 0 3 -
+0 1 8 -
+21 0 22 -
+0 1 2 -
+0 0 3 -
+4 0 2 -
+22 0 11 -
+22 0 3 -
+0 0 3 -
+0 {} 6 -
+23 0 6 -
+0 2 7 4100
+0 257 2 -
+1 8 0 -
+",
+        tag_of(1, b"").0
+    );
+    assert_eq!(level_one_text(&script), expected);
 }
 
 /// Document 01's own script starts and yields by kinds 2 and 3, which are
@@ -1009,6 +1472,7 @@ code number used bytes
 #[test]
 fn sheet_stops_after_1_2_and_3() {
     assert_eq!(sheet(&[]), HEADER);
+    assert_eq!(sheet_level_one(&[]), HEADER);
     let cases: [(&[u8], &str); 12] = [
         (&[1, 13, 1], "0 0 2 -\n1 1 0 -\n"),
         (&[1, 13, 0x19, 8, 0, 0], "0 0 2 -\n1 2 0 -\n"),
@@ -1025,6 +1489,7 @@ fn sheet_stops_after_1_2_and_3() {
     ];
     for (script, lines) in cases {
         assert_eq!(sheet_text(script), format!("code number used bytes\n{lines}"));
+        assert_eq!(level_one_text(script), sheet_text(script));
     }
 }
 
@@ -1048,7 +1513,9 @@ fn scripts_at_the_limit() {
     assert_eq!(sheet_text(&script[..65_536]), lines(32_768));
     assert_eq!(sheet_text(&script), format!("{header}16 0 0 -\n"));
     // Too long a script prints no other line, whatever it holds.
-    assert_eq!(sheet_text(&[2; 70_000]), format!("{header}16 0 0 -\n"));
+    for text in [sheet_text, level_one_text] {
+        assert_eq!(text(&[2; 70_000]), format!("{header}16 0 0 -\n"));
+    }
     // The longest record that fits a script, cut and whole.
     let write = record_of(&Call::SharedWrite { offset: 0, bytes: &[1; 65_530] });
     assert_eq!(write.len(), 65_536);
@@ -1108,44 +1575,63 @@ impl Random {
     }
 }
 
+/// Runs a random script, the last record malformed in one way or another, call after
+/// call, and compares its sheet. Counts the codes.
+fn random_script(random: &mut Random, profile: Profile, codes: &mut [usize; 24]) {
+    let mut bench = Bench { profile, ..Bench::fresh() };
+    let mut script = Vec::new();
+    let mut expected = String::from("code number used bytes\n");
+    let mut numbers = Vec::new();
+    for n in 0..1_600 {
+        let mut record = random.record(&numbers);
+        if n == 1_599 {
+            match random.below(4) {
+                0 => record[0] ^= 1 << random.below(8),
+                1 => record[1] = random.below(256) as u8,
+                2 => record[1] = 2 + random.below(2) as u8,
+                _ => drop(record.pop()),
+            }
+        }
+        let answer = bench.raw(&record);
+        codes[usize::from(answer.code)] += 1;
+        if answer.code == 0 && matches!(record[1], 9 | 11) {
+            numbers.push(answer.number);
+        }
+        let mut shown: String =
+            bench.output[..answer.shown].iter().map(|byte| format!("{byte:02x}")).collect();
+        if shown.is_empty() {
+            shown.push('-');
+        }
+        let Answer { code, number, used, .. } = answer;
+        expected += &format!("{code} {number} {used} {shown}\n");
+        script.extend(record);
+    }
+    match profile {
+        Profile::Full => assert_eq!(sheet_text(&script), expected),
+        Profile::LevelOne => assert_eq!(level_one_text(&script), expected),
+    }
+}
+
+/// The codes given are all but these.
+fn random_scripts_never_give(profile: Profile, never: &[usize]) {
+    let mut random = Random(0x9E37_79B9_7F4A_7C15);
+    let mut codes = [0; 24];
+    for _ in 0..20 {
+        random_script(&mut random, profile, &mut codes);
+    }
+    assert!((0..24).all(|code| (codes[code] > 0) != never.contains(&code)), "{codes:?}");
+}
+
+/// Every refusal a record can meet in a sound box is met, but for 20: chains are
+/// short here. 5 is retired, 21 to 23 are the level-one paper's.
 #[test]
 fn random_scripts() {
-    let mut random = Random(0x9E37_79B9_7F4A_7C15);
-    let mut codes = [0; 21];
-    for _ in 0..20 {
-        let mut bench = Bench::fresh();
-        let mut script = Vec::new();
-        let mut expected = String::from("code number used bytes\n");
-        let mut numbers = Vec::new();
-        for n in 0..1_600 {
-            let mut record = random.record(&numbers);
-            if n == 1_599 {
-                // The last is malformed in one way or another.
-                match random.below(4) {
-                    0 => record[0] ^= 1 << random.below(8),
-                    1 => record[1] = random.below(256) as u8,
-                    2 => record[1] = 2 + random.below(2) as u8,
-                    _ => drop(record.pop()),
-                }
-            }
-            let answer = bench.raw(&record);
-            codes[usize::from(answer.code)] += 1;
-            if answer.code == 0 && matches!(record[1], 9 | 11) {
-                numbers.push(answer.number);
-            }
-            let mut shown: String =
-                bench.output[..answer.shown].iter().map(|byte| format!("{byte:02x}")).collect();
-            if shown.is_empty() {
-                shown.push('-');
-            }
-            let Answer { code, number, used, .. } = answer;
-            expected += &format!("{code} {number} {used} {shown}\n");
-            script.extend(record);
-        }
-        assert_eq!(sheet_text(&script), expected);
-    }
-    // Every refusal a record can meet in a sound box was met, but for 20: chains are
-    // short here. 5 is retired.
-    let never = [5, 15, 16, 17, 20];
-    assert!((0..21).all(|code| (codes[code] > 0) != never.contains(&code)), "{codes:?}");
+    random_scripts_never_give(Profile::Full, &[5, 15, 16, 17, 20, 21, 22, 23]);
+}
+
+/// No number of an escrow or a chain alone is met, nor 13: identities are few here.
+#[test]
+fn random_level_one_scripts() {
+    let never = [5, 10, 12, 13, 14, 15, 16, 17, 18, 19, 20];
+    random_scripts_never_give(Profile::LevelOne, &never);
 }

@@ -58,7 +58,7 @@ code number used bytes
 0 0 3 -
 4 0 2 -
 ";
-    Case { name: "the example".into(), script: script.to_vec(), sheet: Some(sheet.into()) }
+    Case::with_sheet("the example", script.to_vec(), sheet)
 }
 
 /// The script as document 01 prints it. Kind 2 is retired, so the sheet ends at
@@ -76,8 +76,7 @@ code number used bytes
 0 0 11 -
 2 0 0 -
 ";
-    let name = "document 01's example, as it stands there".into();
-    Case { name, script: script.to_vec(), sheet: Some(sheet.into()) }
+    Case::with_sheet("document 01's example, as it stands there", script.to_vec(), sheet)
 }
 
 fn a_b() -> Case {

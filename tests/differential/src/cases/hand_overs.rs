@@ -61,7 +61,7 @@ pub(super) fn written(name: &str, records: &[(&str, &str)]) -> Case {
 }
 
 /// The bytes of hexadecimal digits, spaces aside.
-fn bytes(digits: &str) -> Vec<u8> {
+pub(super) fn bytes(digits: &str) -> Vec<u8> {
     let digits: Vec<u32> = digits.chars().filter(|&digit| digit != ' ').map(value).collect();
     digits.chunks(2).map(|pair| (16 * pair[0] + pair[1]) as u8).collect()
 }

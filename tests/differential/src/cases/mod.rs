@@ -7,6 +7,7 @@ mod draws;
 mod exam;
 mod fnv;
 mod hand_overs;
+mod level_one;
 mod limits;
 mod order;
 mod reader;
@@ -30,6 +31,7 @@ pub fn all() -> Vec<Case> {
         order::cases(),
         reader::cases(),
         limits::cases(),
+        level_one::cases(),
     ];
     groups.into_iter().flatten().collect()
 }
@@ -50,6 +52,6 @@ fn handle(length: u16, draw: u64) -> u64 {
 }
 
 /// The first number whose fault holds, or 0 when none does.
-fn first_fault(faults: &[(u8, bool)]) -> u8 {
+pub(crate) fn first_fault(faults: &[(u8, bool)]) -> u8 {
     faults.iter().find(|(_, holds)| *holds).map_or(0, |(number, _)| *number)
 }
