@@ -1,9 +1,11 @@
 /* The reference box, for hosts in C. Link libcaif.a, which `rt staticlib caif` proves and writes to
- * target/staticlib/ (x86-64).
+ * target/staticlib/ (x86-64). The tank desk, caif_desk and caif_shift, is in libdesk.a, by `rt staticlib desk`; a host
+ * links either or both.
  *
  * A host holds a box record, which goes in and comes back by value, and the tables and buffers that it lends for
  * each call. Whatever they hold, and however long they are, caif_call and caif_call_level_one return: a buffer that is
- * not of its size, or a box that is not sound, gets code 15, and a refusal alters nothing.
+ * not of its size, or a box that is not sound, gets code 15, and a refusal alters nothing. caif_desk and caif_shift
+ * return too, and alter nothing of the box, accepted or refused.
  *
  * What a host owes, because no program can test it: each pointer leads to as many elements as the count after it
  * says, is not null even where that count is 0, and is aligned for its type; no two lent buffers overlap; nobody
@@ -33,6 +35,7 @@ extern "C" {
 #define CAIF_VALUE 256          /* the longest value */
 #define CAIF_LINKS 16           /* the most links of a chain */
 #define CAIF_LEVEL_ONE_PLACES 4 /* the places of level-one papers, 0 to 3 */
+#define CAIF_TANKS 8            /* the most tanks of a list */
 #define CAIF_RECORD 65556       /* the longest record: a chain with 65,535 bytes */
 #define CAIF_DRAWS 281474976710656 /* a draw is below this, 2^48; a handle is length * 2^48 + draw */
 
@@ -70,6 +73,7 @@ enum caif_way {
  * empty record 1, bit 0 of the map down 2, no kind byte 1, kind 2, map 3, cut field 1; then rising numbers, but for
  * a chain: 4; then link by link 20, 19 by its way or a cut value, 9, 18, 19 by its head; then 19 by bytes left over.
  * caif_call_level_one has three codes more, each at its place: 21 before 4, 22 directly after 6, 23 directly after 11.
+ * The desk gives 24, 25 and 26, in this order, and no others.
  * Code 5, one already runs, is retired with start: no call gives it, and the number stays reserved and gets no other
  * meaning. */
 enum caif_code {
@@ -97,8 +101,12 @@ enum caif_code {
     CAIF_LONG_CHAIN = 20,    /* a link more after CAIF_LINKS of them: chain */
     CAIF_NO_ESCROW = 21,     /* level one: protect, retrieve, chain */
     CAIF_HIGH_PLACE = 22,    /* level one: place above 3 in a create, or in a hand over other than CAIF_NONE */
-    CAIF_OTHER_VALUE = 23    /* level one: the log has a row of this identity with another value, also where it has one with
+    CAIF_OTHER_VALUE = 23,   /* level one: the log has a row of this identity with another value, also where it has one with
                               * this value too: attest */
+    CAIF_OUT_OF_RANGE = 24,  /* desk: reading or setpoint outside -500 to 3,000; a list: not 1 to CAIF_TANKS tanks, or not as
+                              * many answers */
+    CAIF_NOT_LOGGED = 25,    /* desk: the correction is not logged, or the box refused to check it */
+    CAIF_CORRECTION_RANGE = 26 /* desk: the correction is outside -50 to 50 */
 };
 
 /* The used rows and value bytes of a table. 4 bytes. */
@@ -157,6 +165,33 @@ struct caif_written {
     size_t length;  /* of the record; 0 with a refusal */
 };
 
+/* A tank, as the desk is asked about it. Temperatures are in hundredths of a degree Celsius. 32 bytes. */
+struct caif_tank {
+    int32_t reading;
+    int32_t setpoint;
+    uint64_t probe;         /* the identity of the program that logged the correction */
+    uint64_t tag;           /* the tag that it got */
+    uint8_t given;          /* 0: no correction, zero is used, and probe, tag and correction are not looked at; else one is
+                             * given */
+    uint8_t correction[2];  /* two's complement, lowest byte first */
+};
+
+/* What to do with a tank. Reading plus correction minus setpoint above 50 is cool, below -50 is warm, otherwise hold. */
+enum caif_action {
+    CAIF_NO_ACTION = 0, /* with a refusal */
+    CAIF_HOLD = 1,
+    CAIF_COOL = 2,
+    CAIF_WARM = 3
+};
+
+/* The desk's answer about a tank. 3 bytes. */
+struct caif_tank_answer {
+    uint8_t code;    /* 0, CAIF_OUT_OF_RANGE, CAIF_NOT_LOGGED or CAIF_CORRECTION_RANGE */
+    uint8_t action;  /* enum caif_action */
+    uint8_t refusal; /* with CAIF_NOT_LOGGED the code with which the box refused the check (CAIF_IDENTITY_ZERO or
+                      * CAIF_NOT_SOUND), or 0 where the check said no; else 0 */
+};
+
 /* The box record of a fresh box. The lent tables and buffers of a fresh box are all zeros. */
 struct caif_box caif_fresh(void);
 
@@ -191,6 +226,32 @@ struct caif_reply caif_call_level_one(struct caif_box held,
 struct caif_written caif_write(uint8_t kind, struct caif_fields fields,
                                const uint8_t *bytes, size_t bytes_size,
                                uint8_t *out, size_t out_size);
+
+/* One tank. A correction counts only if the box's check says that this probe logged those two bytes and got that tag. The
+ * answer depends on the box, its sizes and its soundness only where a correction is given, and reading and setpoint are in
+ * range. */
+struct caif_tank_answer caif_desk(struct caif_tank tank,
+                                  struct caif_box held,
+                                  struct caif_log_row *log, size_t log_rows,
+                                  struct caif_escrow_row *escrow, size_t escrow_rows,
+                                  uint8_t *heaps, size_t heaps_size,
+                                  uint8_t *shared, size_t shared_size,
+                                  uint8_t *log_values, size_t log_values_size,
+                                  uint8_t *escrow_values, size_t escrow_values_size,
+                                  uint8_t *output, size_t output_size);
+
+/* A list of 1 to CAIF_TANKS tanks in order, each with its own answer in answers, which has as many. Gives 0; or
+ * CAIF_OUT_OF_RANGE where the list is refused whole, and then no answer is written. */
+uint8_t caif_shift(const struct caif_tank *tanks, size_t tanks_count,
+                   struct caif_tank_answer *answers, size_t answers_count,
+                   struct caif_box held,
+                   struct caif_log_row *log, size_t log_rows,
+                   struct caif_escrow_row *escrow, size_t escrow_rows,
+                   uint8_t *heaps, size_t heaps_size,
+                   uint8_t *shared, size_t shared_size,
+                   uint8_t *log_values, size_t log_values_size,
+                   uint8_t *escrow_values, size_t escrow_values_size,
+                   uint8_t *output, size_t output_size);
 
 #ifdef __cplusplus
 }

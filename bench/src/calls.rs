@@ -186,7 +186,7 @@ pub fn value(n: u8) -> [u8; 64] {
 
 /// Services of identities 1 and on, with heaps that are not zeros, and so many
 /// rows of 64 bytes in log and escrow, all of identity 16. None runs.
-fn full(services: u8, rows: u8) -> Host {
+pub fn full(services: u8, rows: u8) -> Host {
     let mut host = Host::fresh();
     for place in 0..services {
         let identity = 16 - (u64::from(services) - 1 - u64::from(place));

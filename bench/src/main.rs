@@ -1,7 +1,7 @@
 //! The proved box, through the C interface, beside the plain Rust of `second`.
 //! Both get the same boxes and records; their answers and buffers are compared
 //! once before the timing. Then level-one calls, beside full calls of the archive and
-//! beside `second`.
+//! beside `second`, and the tank desk beside `second`'s.
 //!
 //!     bench ROUNDS BOXRUN SECOND SCRIPT
 //!
@@ -10,6 +10,7 @@
 #![forbid(unsafe_code)]
 
 mod calls;
+mod desk;
 mod level_one;
 mod sheets;
 mod table;
@@ -44,6 +45,10 @@ fn time(rounds: usize, boxrun: &str, second: &str, script: &str) -> io::Result<E
     sheets::time(sheet_rounds, boxrun, second, script)?;
     table::level_one_head();
     for case in level_one::cases() {
+        case.time(rounds)?;
+    }
+    table::desk_head();
+    for case in desk::cases() {
         case.time(rounds)?;
     }
     Ok(ExitCode::SUCCESS)

@@ -31,6 +31,12 @@ pub fn level_one_line(
     println!("| {name} | {level_one:.2} | {full:.2} | {by_full:.2} | {plain:.2} | {by_plain:.2} |");
 }
 
+/// The lines after it are of [`line`].
+pub fn desk_head() {
+    println!("\n| desk | proved | plain Rust | ratio |");
+    println!("|---|---:|---:|---:|");
+}
+
 /// In microseconds.
 fn median(mut times: Vec<Duration>) -> f64 {
     times.sort();

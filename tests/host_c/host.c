@@ -41,6 +41,17 @@ struct caif_reply call_level_one(struct host *host, const struct sizes *sizes, c
     return reply;
 }
 
+struct caif_tank_answer desk(struct host *host, const struct sizes *sizes, struct caif_tank tank)
+{
+    return caif_desk(tank, LENT(host, sizes));
+}
+
+uint8_t shift(struct host *host, const struct sizes *sizes, const struct caif_tank *tanks, size_t count,
+              struct caif_tank_answer *answers, size_t lent)
+{
+    return caif_shift(tanks, count, answers, lent, LENT(host, sizes));
+}
+
 /* Fields are compared one by one: what stands in a struct's padding is nobody's concern. */
 static bool same_box(const struct caif_box *a, const struct caif_box *b)
 {
@@ -101,6 +112,7 @@ int main(void)
     check_calls();
     check_refusals();
     check_level_one();
+    check_desk();
     printf("%u passed, %u failed\n", passed, failed);
     return passed == 0 || failed != 0;
 }

@@ -39,6 +39,11 @@ struct caif_reply call(struct host *host, const struct sizes *sizes, const uint8
 /* The same through the level-one entry. */
 struct caif_reply call_level_one(struct host *host, const struct sizes *sizes, const uint8_t *bytes, size_t count);
 
+/* One tank at the desk, and a list of them. */
+struct caif_tank_answer desk(struct host *host, const struct sizes *sizes, struct caif_tank tank);
+uint8_t shift(struct host *host, const struct sizes *sizes, const struct caif_tank *tanks, size_t count,
+              struct caif_tank_answer *answers, size_t lent);
+
 /* Asserts each part of the box and of the buffers, and the elements that are not lent. */
 void check_host(const struct host *is, const struct host *wanted, const char *label);
 
@@ -53,5 +58,6 @@ void check_layout(void);
 void check_calls(void);
 void check_refusals(void);
 void check_level_one(void);
+void check_desk(void);
 
 #endif

@@ -53,7 +53,22 @@ static void check_answers(void)
     FIELD(caif_written, length, 8);
 }
 
-/* The sizes that document 01 names. */
+static void check_tank(void)
+{
+    SIZE(caif_tank, 32, 8);
+    FIELD(caif_tank, reading, 0);
+    FIELD(caif_tank, setpoint, 4);
+    FIELD(caif_tank, probe, 8);
+    FIELD(caif_tank, tag, 16);
+    FIELD(caif_tank, given, 24);
+    FIELD(caif_tank, correction, 25);
+    SIZE(caif_tank_answer, 3, 1);
+    FIELD(caif_tank_answer, code, 0);
+    FIELD(caif_tank_answer, action, 1);
+    FIELD(caif_tank_answer, refusal, 2);
+}
+
+/* The sizes that documents 01 and 02 name. */
 static void check_sizes(void)
 {
     check(CAIF_PLACES == 16 && CAIF_NONE == 16, "sizes", "places");
@@ -64,6 +79,7 @@ static void check_sizes(void)
     check(CAIF_DRAWS == (uint64_t)1 << 48, "sizes", "draws");
     check(CAIF_LINKS == 16, "sizes", "the links of a chain");
     check(CAIF_LEVEL_ONE_PLACES == 4, "sizes", "the places of level one");
+    check(CAIF_TANKS == 8, "sizes", "the tanks of a list");
     check(CAIF_RECORD == 1 + 1 + 1 + 8 + 8 + 2 + 65535, "sizes", "the longest record, a chain's");
 }
 
@@ -116,6 +132,9 @@ static int is_code(enum caif_code code)
     case CAIF_NO_ESCROW:
     case CAIF_HIGH_PLACE:
     case CAIF_OTHER_VALUE:
+    case CAIF_OUT_OF_RANGE:
+    case CAIF_NOT_LOGGED:
+    case CAIF_CORRECTION_RANGE:
         return 1;
     }
     return 0;
@@ -152,7 +171,14 @@ static void check_codes(void)
     check(CAIF_NOT_SOUND == 15 && CAIF_TOO_LONG == 16 && CAIF_NO_ROOM == 17, "codes", "the host's");
     check(CAIF_NO_LINK == 18 && CAIF_BAD_CHAIN == 19 && CAIF_LONG_CHAIN == 20, "codes", "a chain's");
     check(CAIF_NO_ESCROW == 21 && CAIF_HIGH_PLACE == 22 && CAIF_OTHER_VALUE == 23, "codes", "level one's");
-    check(!is_code((enum caif_code)24), "codes", "23 is the last");
+    check(CAIF_OUT_OF_RANGE == 24 && CAIF_NOT_LOGGED == 25 && CAIF_CORRECTION_RANGE == 26, "codes", "the desk's");
+    check(!is_code((enum caif_code)27), "codes", "26 is the last");
+}
+
+/* What to do with a tank. */
+static void check_actions(void)
+{
+    check(CAIF_NO_ACTION == 0 && CAIF_HOLD == 1 && CAIF_COOL == 2 && CAIF_WARM == 3, "actions", "the four");
 }
 
 void check_layout(void)
@@ -161,7 +187,9 @@ void check_layout(void)
     check_kinds();
     check_ways();
     check_codes();
+    check_actions();
     check_held();
     check_rows();
     check_answers();
+    check_tank();
 }

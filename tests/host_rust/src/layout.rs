@@ -3,7 +3,9 @@
 use std::mem::{align_of, size_of};
 use std::ptr::addr_of;
 
-use interface::{fresh, BoxRecord, EscrowRow, Fields, LogRow, Reply, Tally, Used, Written};
+use interface::{
+    fresh, BoxRecord, EscrowRow, Fields, LogRow, Reply, Tally, Tank, TankAnswer, Used, Written,
+};
 
 pub fn check(tally: &mut Tally) {
     let mut same = |what: &str, is: usize, wanted: usize| {
@@ -27,4 +29,6 @@ pub fn check(tally: &mut Tally) {
     layout!(Reply { held, code: 0, number: 0, used: 0, shown: 0 }, Reply: 176, 8; held: 0, code: 144, number: 152, used: 160, shown: 168);
     layout!(Fields::default(), Fields: 32, 8; place: 0, identity: 8, offset: 16, length: 18, number: 24);
     layout!(Written { code: 0, length: 0 }, Written: 16, 8; code: 0, length: 8);
+    layout!(Tank::default(), Tank: 32, 8; reading: 0, setpoint: 4, probe: 8, tag: 16, given: 24, correction: 25);
+    layout!(TankAnswer::default(), TankAnswer: 3, 1; code: 0, action: 1, refusal: 2);
 }

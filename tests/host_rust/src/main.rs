@@ -3,6 +3,7 @@
 #![forbid(unsafe_code)]
 
 mod calls;
+mod desk;
 mod layout;
 mod level_one;
 mod refusals;
@@ -17,5 +18,6 @@ fn main() -> ExitCode {
     calls::check(&mut tally);
     refusals::check(&mut tally);
     level_one::check(&mut tally);
+    desk::check(&mut tally);
     tally.summary()
 }

@@ -9,24 +9,24 @@ const GUARD: usize = 4;
 
 /// A lent buffer, between elements that are not lent.
 #[derive(Clone, Debug, PartialEq, Eq)]
-struct Guarded<T> {
+pub(crate) struct Guarded<T> {
     all: Vec<T>,
     guard: T,
 }
 
 impl<T: Copy + PartialEq> Guarded<T> {
-    fn new(guard: T, elements: impl Iterator<Item = T>) -> Self {
+    pub(crate) fn new(guard: T, elements: impl Iterator<Item = T>) -> Self {
         let mut all = vec![guard; GUARD];
         all.extend(elements);
         all.extend([guard; GUARD]);
         Guarded { all, guard }
     }
 
-    fn lent(&self) -> &[T] {
+    pub(crate) fn lent(&self) -> &[T] {
         &self.all[GUARD..self.all.len() - GUARD]
     }
 
-    fn lend(&mut self) -> &mut [T] {
+    pub(crate) fn lend(&mut self) -> &mut [T] {
         let end = self.all.len() - GUARD;
         &mut self.all[GUARD..end]
     }
@@ -40,7 +40,7 @@ impl<T: Copy + PartialEq> Guarded<T> {
         *self = Guarded::new(self.guard, resized.take(size));
     }
 
-    fn guards_stand(&self) -> bool {
+    pub(crate) fn guards_stand(&self) -> bool {
         let (before, behind) = (&self.all[..GUARD], &self.all[self.all.len() - GUARD..]);
         before.iter().chain(behind).all(|element| *element == self.guard)
     }
@@ -111,7 +111,14 @@ impl Host {
 
     /// As [`call`](Self::call), through the profile's entry.
     pub fn call_under(&mut self, profile: Profile, record: &[u8]) -> Reply {
-        let lent = Lent {
+        let reply = call(profile, self.held, self.lend(), record);
+        self.held = reply.held;
+        reply
+    }
+
+    /// All that it lends for a call.
+    pub(crate) fn lend(&mut self) -> Lent<'_> {
+        Lent {
             log: self.log.lend(),
             escrow: self.escrow.lend(),
             heaps: self.heaps.lend(),
@@ -119,10 +126,7 @@ impl Host {
             log_values: self.log_values.lend(),
             escrow_values: self.escrow_values.lend(),
             output: self.output.lend(),
-        };
-        let reply = call(profile, self.held, lent, record);
-        self.held = reply.held;
-        reply
+        }
     }
 
     /// Lends a buffer of another size from now on.
@@ -168,7 +172,7 @@ impl Host {
 
     /// The first part that is not as in the other box, if one isn't. A guard
     /// that was written to is such a part.
-    fn differs(&self, host: &second::Host, output: &[u8]) -> Option<&'static str> {
+    pub(crate) fn differs(&self, host: &second::Host, output: &[u8]) -> Option<&'static str> {
         let parts = [
             ("the box record", self.held == box_record(&host.record)),
             ("the log's rows", self.log.lent().iter().copied().eq(host.log.iter().map(log_row))),

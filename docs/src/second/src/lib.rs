@@ -1,23 +1,26 @@
-//! The box of document 01, amended by requests P1 to P3 and P5 of document 02:
-//! places with heaps, shared memory, a log and an escrow, worked by thirteen calls,
-//! as the full box or as the level-one paper (P5). P4 altered no answer. A second
-//! program, written from those documents alone.
+//! The box of document 01, amended by requests P1 to P6 of document 02: places with
+//! heaps, shared memory, a log and an escrow, worked by thirteen calls, as the full
+//! box or as the level-one paper (P5), and the tank desk over it (P6). P4 altered no
+//! answer. A second program, written from those documents alone.
 
 #![forbid(unsafe_code)]
 
 mod answer;
 mod calls;
 mod chain;
+mod desk;
 mod profile;
 mod record;
 mod sheet;
 mod sound;
 mod tables;
 mod tags;
+mod tank;
 
 pub use answer::{Answer, Refusal};
 pub use calls::{call, call_level_one, SoundBox};
 pub use chain::{Link, LINKS_MAX, WAY_END, WAY_ESCROWED, WAY_LOGGED};
+pub use desk::{desk, shift, SHIFT_MAX};
 pub use profile::Profile;
 pub use record::{read, write, write_call, Call, Fields, Kind, Written};
 pub use sheet::{sheet, sheet_level_one, HEADER, SCRIPT_MAX};
@@ -27,3 +30,4 @@ pub use tables::{
     OUTPUT_SIZE, PLACES, ROWS, SHARED_SIZE, VALUES_SIZE, VALUE_MAX,
 };
 pub use tags::{fnv1a, tag_of, Draw, Handle, Tag, DRAW_LIMIT};
+pub use tank::{Action, Correction, Tank, TankAnswer, TankRefusal};

@@ -1,0 +1,78 @@
+-- Lists of tanks and of answers by value. Assumes nothing.
+use Prim.Native.Nat.{ℕ, _≤_}
+use mathlib.Core.Path.{_≡_, refl, _∙_, ap}
+use mathlib.Core.Bool.{true, false}
+use mathlib.Core.List.{List, [], _∷_, _++_, map}
+use lib.ListN.{length, take, drop, getD}
+use lib.Dec.{leb}
+use borrow.Author.Tests.{eqb-true, leb-true}
+use Rattle.lists.proofs.Bools.{and-left, and-right}
+use Rattle.ideal.specs.declared.BoxRecord.{BoxRecord}
+use Rattle.ideal.specs.declared.LogRow.{LogRow}
+use Rattle.ideal.specs.declared.EscrowRow.{EscrowRow}
+use Rattle.ideal.specs.Tables.{Tables}
+use Rattle.ideal.specs.Box.{callOn}
+use Rattle.state.specs.declared.LogTable.{LogTable}
+use Rattle.state.specs.declared.EscrowTable.{EscrowTable}
+use Rattle.soundness.specs.Parts.{tablesOf}
+use Rattle.caif.specs.Lent.{lentTables}
+use Rattle.desk.specs.declared.Tank.{Tank}
+use Rattle.desk.specs.declared.TankAnswer.{TankAnswer}
+use Rattle.desk.specs.declared.Tanks.{Tanks}
+use Rattle.desk.specs.declared.Answers.{Answers}
+use Rattle.desk.specs.Desk.{isList, deskOn, shiftOn}
+use Rattle.desk.specs.Results.{deskResult, deskLeaves, listResult, listLeaves, shiftResult, shiftLeaves, blankTanks, padded, Left}
+
+-- what `desk_list` says, of copied rows or of lent ones
+abbrev pub ListRight : Answers → Tables → List ℕ → Tables → List ℕ → Tanks → Type 0
+ListRight r t′ output′ t output ks = listResult r t′ output′ ≡ listLeaves callOn t output ks
+
+-- copies of the lent rows are the lent rows
+pub lent-right : {b : BoxRecord} {heaps shared logValues escrowValues output heaps′ shared′ logValues′ escrowValues′ output′ : List ℕ} {r : Answers} {l : List LogRow} {e : List EscrowRow} (ks : Tanks) (lt : LogTable) (et : EscrowTable)
+    → lt .rows ≡ l → et .rows ≡ e → ListRight r (tablesOf b lt et heaps′ shared′ logValues′ escrowValues′) output′ (tablesOf b lt et heaps shared logValues escrowValues) output ks
+    → ListRight r (lentTables b l e heaps′ shared′ logValues′ escrowValues′) output′ (lentTables b l e heaps shared logValues escrowValues) output ks
+lent-right ks lt et el ee right = rw (← el, ← ee) right
+
+-- the three parts of what is left
+parts : {r : Answers} {t′ t : Tables} {output′ output : List ℕ} {ks : Tanks} {l : List Tank} → ks .rows ≡ l → ListRight r t′ output′ t output ks
+    → (r .rows ≡ map (deskOn callOn t (length output)) l) × ((t′ ≡ t) × (output′ ≡ output))
+parts {t = t} {output = output} e right = (
+  ap (λ (z : Left (List TankAnswer)). z .answer) right ∙ ap (map (deskOn callOn t (length output))) e,
+  (ap (λ (z : Left (List TankAnswer)). z .tables) right, ap (λ (z : Left (List TankAnswer)). z .output) right),
+)
+
+front : {A B : Type 0} (f : A → B) (xs ys : List A) → take (length xs) (map f (xs ++ ys)) ≡ map f xs
+front f [] ys = refl
+front f (x ∷ xs) ys = rw (front f xs ys)
+
+-- ---- one tank
+
+pub first-right : (k : Tank) (ks : Tanks) (r : Answers) (a : TankAnswer) (t′ t : Tables) (output′ output : List ℕ) → ks .rows ≡ k ∷ drop 1 blankTanks
+    → a ≡ getD (r .rows) 0 (record { code = 0; action = 0; refusal = 0 }) → ListRight r t′ output′ t output ks → deskResult a t′ output′ ≡ deskLeaves callOn t output k
+first-right k ks r a t′ t output′ output eks ea right = let p = parts eks right in rw (ea, p .0, p .1 .0, p .1 .1)
+
+-- ---- a list of 1 to 8
+
+pub record Whole (tanks answers : ℕ) : Type 0 where
+  pub least : 1 ≤ tanks
+  pub few : tanks ≤ 8
+  pub as-many : answers ≡ tanks
+
+pub is-whole : (n m : ℕ) → isList n m ≡ true → Whole n m
+unfolding isList
+is-whole n m h =
+    let h₁ = and-right (leb 1 n) _ h in
+    record { least = leb-true 1 n (and-left (leb 1 n) _ h); few = leb-true n 8 (and-left (leb n 8) _ h₁); as-many = eqb-true m n (and-right (leb n 8) _ h₁) }
+
+pub shift-right : (tanks : List Tank) (answers answers′ : List TankAnswer) (ks : Tanks) (r : Answers) (t′ t : Tables) (output′ output : List ℕ) → ks .rows ≡ padded tanks
+    → isList (length tanks) (length answers) ≡ true → answers′ ≡ take (length answers) (r .rows) → ListRight r t′ output′ t output ks
+    → shiftResult 0 answers′ t′ output′ ≡ shiftLeaves callOn t output tanks answers
+unfolding shiftOn padded
+shift-right tanks answers answers′ ks r t′ t output′ output eks whole ea right =
+    let p = parts eks right in
+    rw (whole, ea, p .0, is-whole (length tanks) (length answers) whole .as-many, front (deskOn callOn t (length output)) tanks (drop (length tanks) blankTanks), p .1 .0, p .1 .1)
+
+pub shift-refused : (tanks : List Tank) (answers : List TankAnswer) (t : Tables) (output : List ℕ) → isList (length tanks) (length answers) ≡ false
+    → shiftResult 24 answers t output ≡ shiftLeaves callOn t output tanks answers
+unfolding shiftOn
+shift-refused tanks answers t output h = rw h

@@ -1,0 +1,5 @@
+pub mod Decision
+pub mod Desk
+pub mod Results
+pub mod Accuracy
+pub mod Boundaries
