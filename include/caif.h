@@ -37,7 +37,11 @@ extern "C" {
 #define CAIF_LEVEL_ONE_PLACES 4 /* the places of level-one papers, 0 to 3 */
 #define CAIF_TANKS 8            /* the most tanks of a list */
 #define CAIF_RECORD 65556       /* the longest record: a chain with 65,535 bytes */
-#define CAIF_DRAWS 281474976710656 /* a draw is below this, 2^48; a handle is length * 2^48 + draw */
+
+/* A draw is below this, 2^48, and a handle is length * 2^48 + draw. Where an escrow row has that handle, the draw after it
+ * is tried, and so on until one is free. The draw after d is 25214903917 * d + 11 modulo 2^48, as POSIX defines for
+ * drand48. */
+#define CAIF_DRAWS 281474976710656
 
 /* Kinds of calls. After each, the fields of its record, in the record's order. Kinds 2 and 3, start and yield, are
  * retired: hand over took their place. The two numbers stay reserved and get no other meaning. */

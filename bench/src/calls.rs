@@ -8,7 +8,7 @@ use differential::calls::{
     attest, chain, check, create, hand_over, heap_read, heap_write, protect, record_of, retrieve,
     shared_read, shared_write,
 };
-use differential::{counted, link_value};
+use differential::{counted, draws, link_value};
 use interface::Sides;
 use second::{tag_of, Call, Host, Link, DRAW_LIMIT, NONE_RUNS, OUTPUT_SIZE};
 
@@ -126,6 +126,8 @@ fn add_full(cases: &mut Vec<Case>) {
     let one_left = after(full(16, 63), &[hand_over(15)]);
     let bytes = [5; 1_024];
     let value = value(63);
+    let last = 64 * DRAW_LIMIT + draws::after(DRAW, 63);
+    assert_eq!(number(&one_left, &protect(1, 64, 64, DRAW)), last, "63 draws passed over");
     let mut add = |name: &str, host: &Host, code: u8, call: Call| {
         cases.push(Case::new("full box", name, host, code, record_of(&call)));
     };
@@ -139,9 +141,9 @@ fn add_full(cases: &mut Vec<Case>) {
     add("attest, logged already", &running, 0, attest(0, 64));
     add("attest, refused 13", &running, 13, attest(64, 64));
     add("check, the last row", &running, 0, check(16, tag_of(16, &value).0, &value));
-    add("protect, the 64th row, 63 draws passed over", &one_left, 0, protect(1, 64, 64, 0));
-    add("protect, refused 14", &running, 14, protect(1, 64, 64, 0));
-    add("retrieve, the last row", &running, 0, retrieve(16, 0, 64 * DRAW_LIMIT + 63));
+    add("protect, the 64th row, 63 draws passed over", &one_left, 0, protect(1, 64, 64, DRAW));
+    add("protect, refused 14", &running, 14, protect(1, 64, 64, DRAW));
+    add("retrieve, the last row", &running, 0, retrieve(16, 0, last));
     add("report", &running, 0, Call::Report);
     add("hand over, none runs", &stopped, 0, hand_over(15));
     add("hand over to another place", &running, 0, hand_over(7));
@@ -184,6 +186,10 @@ pub fn value(n: u8) -> [u8; 64] {
     value
 }
 
+/// Every row of a full escrow is made with this draw, so that the draws in the rows
+/// follow one another.
+const DRAW: u64 = 0;
+
 /// Services of identities 1 and on, with heaps that are not zeros, and so many
 /// rows of 64 bytes in log and escrow, all of identity 16. None runs.
 pub fn full(services: u8, rows: u8) -> Host {
@@ -196,10 +202,17 @@ pub fn full(services: u8, rows: u8) -> Host {
     let place = services - 1;
     for n in 0..rows {
         let value = value(n);
-        let calls = [heap_write(place, 0, &value), attest(0, 64), protect(16, 0, 64, u64::from(n))];
+        let calls = [heap_write(place, 0, &value), attest(0, 64), protect(16, 0, 64, DRAW)];
         host = after(host, &calls);
     }
     after(host, &[hand_over(NONE_RUNS)])
+}
+
+/// The number that the call gets on this box, which accepts it.
+fn number(host: &Host, call: &Call) -> u64 {
+    let answer = host.clone().call(&mut [0; OUTPUT_SIZE], &record_of(call));
+    assert_eq!(answer.code, 0, "{call:?}");
+    answer.number
 }
 
 /// The box after these calls, which are accepted.

@@ -1,8 +1,8 @@
 -- What one turn of the search for a free handle adds. Assumes nothing.
 use Prim.Native.Nat.{ℕ, suc, _+_, _-_, _≤_, _<_}
-use mathlib.Core.Path.{_≡_, refl}
+use mathlib.Core.Path.{_≡_}
 use mathlib.Core.Bool.{true, false}
-use mathlib.Core.List.{List, [], _∷_}
+use mathlib.Core.List.{List}
 use native.Mathlib.Omega.{arith}
 use Rattle.record.specs.declared.Handle.{Handle}
 use Rattle.ideal.specs.declared.EscrowRow.{EscrowRow}
@@ -10,13 +10,13 @@ use Rattle.ideal.specs.State.{Escrowed, any}
 use Rattle.ideal.specs.Step.{hasHandle, handleOf, next, freeFrom}
 use Rattle.ideal.specs.Tables.{escrowTable, entriesOf}
 use Rattle.handles.specs.Rows.{rowHas}
+use Rattle.ideal.proofs.FirstFree.{used-entries}
 
 -- a handle is in an entry where it is in its row, whatever the values
 pub handle-entries : (values : List ℕ) (h : Handle) (rows : List EscrowRow)
     → any (hasHandle h) (entriesOf escrowTable values rows) ≡ any (rowHas h) rows
-unfolding any entriesOf hasHandle rowHas
-handle-entries values h [] = refl
-handle-entries values h (r ∷ rows) = rw (handle-entries values h rows)
+unfolding rowHas
+handle-entries values h rows = used-entries h values rows
 
 -- ---- candidates: 64 are passed over at most, k of them already
 

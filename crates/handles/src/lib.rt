@@ -11,6 +11,9 @@ use ideal::EscrowRow;
 use record::Draw;
 use record::Handle;
 
+// The multiplier of POSIX's drand48.
+const MULTIPLIER: u64 = 25214903917;
+
 // Whether one of the first n rows has the handle.
 pub fn handle_in(rows: [EscrowRow; 64], n: usize, handle: Handle) -> bool
     requires { ⌜ n ≤ 64 ⌝ }
@@ -27,12 +30,15 @@ pub fn handle_in(rows: [EscrowRow; 64], n: usize, handle: Handle) -> bool
     false
 }
 
-// The draw after one whose handle is in use.
+// The draw after one whose handle is in use: MULTIPLIER times it plus 11, modulo 2^48. The product would overflow 64 bits,
+// so the draw's two halves of 24 bits are multiplied apart; of the high half's product only the 24 lowest bits count.
 fn next_draw(draw: Draw) -> Draw
     requires { ⌜ draw .0 < 2 ^ 48 ⌝ }
     ensures { λ r. ⌜ r .0 ≡ next (draw .0) ⌝ }
 {
-    Draw((draw.0 + 1) % 281474976710656)
+    let low = MULTIPLIER * (draw.0 % 16777216);
+    let high = MULTIPLIER * (draw.0 / 16777216);
+    Draw((low + high % 16777216 * 16777216 + 11) % 281474976710656)
 }
 
 fn handle_of(size: u16, draw: Draw) -> Handle

@@ -1,7 +1,8 @@
--- The handle that an accepted protect gives is that of the first free draw. Assumes nothing.
+-- An accepted protect gives the handle of the first free draw, and at most 64 draws are passed over. Assumes nothing.
 use Prim.Native.Nat.{ℕ, _^_, _≤_, _<_}
-use mathlib.Core.Path.{_≡_, refl, sym, ap, _∙_}
+use mathlib.Core.Path.{_≡_, refl, sym, ap, subst, _∙_}
 use mathlib.Core.List.{List, [], _∷_}
+use native.Mathlib.Omega.{arith}
 use lib.ListN.{length}
 use lib.Dec.{eqb}
 use Rattle.record.specs.declared.Handle.{Handle}
@@ -13,12 +14,15 @@ use Rattle.ideal.specs.State.{any}
 use Rattle.ideal.specs.Step.{hasHandle, freeHandle, number, accepted}
 use Rattle.ideal.specs.Tables.{Tables, stateOf, escrowTable, entriesOf, usedEscrow}
 use Rattle.ideal.specs.Box.{Element, laid, callOn}
-use Rattle.ideal.specs.Accuracy.{candidate, handleUsed, HandleIsFirstFree}
+use Rattle.ideal.specs.Accuracy.{candidate, handleUsed, FirstFree, HandleIsFirstFree}
+use Rattle.ideal.specs.Draws.{FewPassedOver}
 use Rattle.ideal.proofs.Free.{first-free}
+use Rattle.ideal.proofs.Table.{escrow-lawful, entries-length}
 use Rattle.ideal.proofs.Accepts.{on-state}
 use Rattle.ideal.proofs.Does.{protect-passed}
 
-used-entries : (h : Handle) (values : List ℕ) (rs : List EscrowRow)
+-- a handle is in an entry where it is in its row, whatever the values
+pub used-entries : (h : Handle) (values : List ℕ) (rs : List EscrowRow)
     → any (hasHandle h) (entriesOf escrowTable values rs) ≡ any (λ r. eqb (r .handle .0) (h .0)) rs
 unfolding any entriesOf hasHandle
 used-entries h values [] = refl
@@ -27,6 +31,25 @@ used-entries h values (r ∷ rs) = rw (used-entries h values rs)
 handle-used : (t : Tables) (h : Handle) → any (hasHandle h) (stateOf t .escrow) ≡ handleUsed t h
 unfolding stateOf handleUsed
 handle-used t h = used-entries h (t .escrowValues) (usedEscrow t)
+
+-- the free handle of the state that the tables stand for is the first free one in the tables
+first-free-in : (t : Tables) (n : ℕ) (d : Draw) → length (stateOf t .escrow) ≤ 64
+    → FirstFree t n (d .0) (freeHandle n d (stateOf t .escrow))
+first-free-in t n d few =
+    let f = first-free n d (stateOf t .escrow) few in
+    record {
+      passed = f .passed;
+      few = f .few;
+      is = f .is;
+      free = sym (handle-used t _) ∙ f .free;
+      used = λ k l. sym (handle-used t (candidate n (d .0) k)) ∙ f .used k l;
+    }
+
+pub few-passed-over : FewPassedOver
+unfolding stateOf
+few-passed-over t size draw few =
+    let m = entries-length escrow-lawful (t .escrowValues) (usedEscrow t) in
+    (_, first-free-in t size (record { 0 = draw }) (omega arith))
 
 -- an accepted protect gives the free handle of the state that the tables stand for
 pub record Gives (t : Tables) (n : ℕ) (d : Draw) (number : ℕ) : Type 0 where
@@ -47,14 +70,7 @@ gives t e i o n d used reads accepts =
 
 pub handle-is-first-free : HandleIsFirstFree callOn
 handle-is-first-free t e i o n d used reads accepts =
-    let h = freeHandle n d (stateOf t .escrow) in
     let g = gives t e i o n d used reads accepts in
-    let f = first-free n d (stateOf t .escrow) (g .few) (g .small) in
-    let q : record { 0 = callOn t e .answer .number } ≡ h = let m = g .is in λ x. record { 0 = m x } in
-    record {
-      passed = f .passed;
-      few = f .few;
-      is = q ∙ f .is;
-      free = ap (handleUsed t) q ∙ sym (handle-used t h) ∙ f .free;
-      used = λ k l. sym (handle-used t (candidate n (d .0) k)) ∙ f .used k l;
-    }
+    let m = g .is in
+    let q : freeHandle n d (stateOf t .escrow) ≡ record { 0 = callOn t e .answer .number } = λ x. record { 0 = sym m x } in
+    subst (FirstFree t n (d .0)) q (first-free-in t n d (g .few))

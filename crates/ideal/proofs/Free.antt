@@ -1,6 +1,6 @@
 -- The free handle: among more candidates than the escrow has rows one is in no row, and the search finds the first such.
--- Of the step from draw to draw the search needs only `next-small` and `next-differ`. Assumes nothing.
-use Prim.Native.Nat.{ℕ, zero, suc, _+_, _/_, _%_, _^_, _≤_, _<_}
+-- Of the step from draw to draw the search needs only `next-small` and `draws-differ`. Assumes nothing.
+use Prim.Native.Nat.{ℕ, zero, suc, _/_, _^_, _≤_, _<_}
 use mathlib.Core.Path.{_≡_, refl, sym, ap, _∙_}
 use mathlib.Core.Bool.{Bool, true, false, cond, false≢true}
 use mathlib.Core.List.{List, [], _∷_}
@@ -14,6 +14,7 @@ use Rattle.ideal.specs.State.{Escrowed, any}
 use Rattle.ideal.specs.Step.{hasHandle, handleOf, next, freeFrom, freeHandle}
 use Rattle.ideal.specs.Accuracy.{iterate, candidate}
 use Rattle.lists.proofs.Bools.{by-cases, clash}
+use Rattle.ideal.proofs.Draws.{draws-differ}
 
 -- ---- more tests than elements, and no element passes two: some test no element passes
 
@@ -70,27 +71,18 @@ module _ {A : Type 0} where
 
 -- ---- the candidates
 
--- the first n of c 0, c 1, .. are pairwise different
-abbrev pub Differ : ℕ → (ℕ → ℕ) → Type 0
-Differ n c = (i j : ℕ) → i < j → j < n → c i ≡ c j → ⊥
-
-pub next-is : (k d : ℕ) → d < 2 ^ 48 → iterate next k d ≡ (d + k) % 2 ^ 48
-unfolding iterate next
-next-is zero d h = omega arith
-next-is (suc k) d h = next-is k (next d) (omega arith) ∙ omega arith
-
+-- each draw of the sequence is below 2^48
 pub next-small : (k d : ℕ) → d < 2 ^ 48 → iterate next k d < 2 ^ 48
-next-small k d h = let e = next-is k d h in omega arith
-
-pub next-differ : (d : ℕ) → d < 2 ^ 48 → Differ 65 (λ k. iterate next k d)
-next-differ d h i j p q e = let a = next-is i d h in let b = next-is j d h in omega arith
+unfolding iterate next
+next-small zero d h = h
+next-small (suc k) d h = next-small k (next d) (omega arith)
 
 -- no row has two of the candidates
-candidates-apart : (size d : ℕ) → d < 2 ^ 48 → Apart 65 (λ k. hasHandle (candidate size d k))
+candidates-apart : (size d : ℕ) → Apart 65 (λ k. hasHandle (candidate size d k))
 unfolding candidate hasHandle handleOf
-candidates-apart size d h i j p q a e =
+candidates-apart size d i j p q a e =
     let x = eqb-true (a .key .handle .0) _ e in
-    ne-eqb (a .key .handle .0) _ (λ y. next-differ d h i j p q (omega arith))
+    ne-eqb (a .key .handle .0) _ (λ y. draws-differ d i j p q (omega arith))
 
 -- ---- the search
 
@@ -109,26 +101,27 @@ unfolding candidate iterate
 used-next size draw n l e u zero h = e
 used-next size draw n l e u (suc k) h = u k (omega arith)
 
-searched : (n size draw : ℕ) (l : List Escrowed) → Searched n size draw l (freeFrom n size draw l)
-unfolding freeFrom candidate iterate
-searched zero size draw l =
-    record { passed = 0; few = omega arith; is = refl; used = λ k h. absurd (omega arith); stops = λ h. absurd (omega arith) }
-searched (suc n) size draw l =
-    by-cases (any (hasHandle (handleOf size draw)) l)
-    (λ e.
-    let r = searched n size (next draw) l in
+-- one turn: what the search finds from the next draw on where this one's handle is in a row, else that handle
+turned : (n size draw : ℕ) (l : List Escrowed) (later : Handle) (b : Bool) → any (hasHandle (handleOf size draw)) l ≡ b
+    → Searched n size (next draw) l later → Searched (suc n) size draw l (cond b later (handleOf size draw))
+unfolding candidate iterate
+turned n size draw l later true e r =
     let f = r .few in
-    rw e
-    (record {
+    record {
       passed = suc (r .passed);
       few = omega arith;
       is = r .is;
       used = used-next size draw (r .passed) l e (r .used);
       stops = λ h. r .stops (omega arith);
-    }))
-    (λ e.
-    rw e
-    (record { passed = 0; few = omega arith; is = refl; used = λ k h. absurd (omega arith); stops = λ h. e }))
+    }
+turned n size draw l later false e r =
+    record { passed = 0; few = omega arith; is = refl; used = λ k h. absurd (omega arith); stops = λ h. e }
+
+searched : (n size draw : ℕ) (l : List Escrowed) → Searched n size draw l (freeFrom n size draw l)
+unfolding freeFrom candidate iterate
+searched zero size draw l =
+    record { passed = 0; few = omega arith; is = refl; used = λ k h. absurd (omega arith); stops = λ h. absurd (omega arith) }
+searched (suc n) size draw l = turned n size draw l _ _ refl (searched n size (next draw) l)
 
 -- it is in no row, where one of the candidates is in none
 found-free : (n size draw : ℕ) (l : List Escrowed) (h : Handle) → Searched n size draw l h
@@ -155,12 +148,12 @@ pub record FirstFreeIn (size draw : ℕ) (l : List Escrowed) (h : Handle) : Type
   pub used : (k : ℕ) → k < passed → any (hasHandle (candidate size draw k)) l ≡ true
   pub free : any (hasHandle h) l ≡ false
 
-module _ (size : ℕ) (d : Draw) (l : List Escrowed) (few : length l ≤ 64) (small : d .0 < 2 ^ 48) where
+module _ (size : ℕ) (d : Draw) (l : List Escrowed) (few : length l ≤ 64) where
   pub first-free : FirstFreeIn size (d .0) l (freeHandle size d l)
   unfolding freeHandle
   first-free =
       let r = searched 64 size (d .0) l in
-      let u = unpassed 64 (λ k. hasHandle (candidate size (d .0) k)) l few (candidates-apart size (d .0) small) in
+      let u = unpassed 64 (λ k. hasHandle (candidate size (d .0) k)) l few (candidates-apart size (d .0)) in
       record {
         passed = r .passed;
         few = r .few;
@@ -173,9 +166,9 @@ module _ (size : ℕ) (d : Draw) (l : List Escrowed) (few : length l ≤ 64) (sm
   free-handle = first-free .free
 
   -- it carries the length
-  pub handle-size : freeHandle size d l .0 / 2 ^ 48 ≡ size
+  pub handle-size : d .0 < 2 ^ 48 → freeHandle size d l .0 / 2 ^ 48 ≡ size
   unfolding candidate handleOf
-  handle-size =
+  handle-size small =
       let e = ap (λ h. h .0) (first-free .is) in
       let s = next-small (first-free .passed) (d .0) small in
       omega arith

@@ -32,7 +32,7 @@ use Rattle.ideal.proofs.Does.{ProtectPassed, protect-passed}
 module _ (s : State) (i o n : ℕ) (d : Draw) (k : Valid s) (a : ProtectPassed s i o n d) where
   pub in-no-row : any (hasHandle (protected s i o n d .key .handle)) (s .escrow) ≡ false
   unfolding protected
-  in-no-row = free-handle n _ (s .escrow) (k .escrow .few) (omega (arith, a .small))
+  in-no-row = free-handle n _ (s .escrow) (k .escrow .few)
 
   pub carries-length : protected s i o n d .key .handle .0 / 2 ^ 48 ≡ n
   unfolding protected

@@ -5,6 +5,7 @@ pub mod OwnRefusals
 pub mod Conditions
 pub mod ReaderNumbers
 pub mod MissingBytes
+pub mod Draws
 pub mod Free
 pub mod Table
 pub mod Heaps

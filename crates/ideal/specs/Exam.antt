@@ -1,5 +1,5 @@
--- Document 01's exam cases A to J and those of requests P1 to P3 in one list of records, every kind among them, with the
--- whole answers.
+-- Document 01's exam cases A to J, B and D as request P7 amends them, and those of requests P1 to P3 and P7 in one list of
+-- records, every kind among them, with the whole answers.
 use Prim.Native.Nat.{ℕ, zero, suc, _/_, _%_, _^_}
 use mathlib.Core.Path.{_≡_}
 use mathlib.Core.List.{List, [], _∷_, map}
@@ -94,11 +94,17 @@ questions =
     -- A: protect for 0x1112131415161718, length 5, draw 7
     ∷ hex 22 0x3D_0B_1817161514131211_0000_0500_0700000000000000 gives says 0 1407374883553287 22 []
     -- B: again
-    ∷ hex 22 0x3D_0B_1817161514131211_0000_0500_0700000000000000 gives says 0 1407374883553288 22 []
+    ∷ hex 22 0x3D_0B_1817161514131211_0000_0500_0700000000000000 gives says 0 1407551387880710 22 []
     -- C: length 0, draw 281474976710655
     ∷ hex 22 0x3D_0B_1817161514131211_0000_0000_FFFFFFFFFFFF0000 gives says 0 281474976710655 22 []
     -- D: again
-    ∷ hex 22 0x3D_0B_1817161514131211_0000_0000_FFFFFFFFFFFF0000 gives says 0 0 22 []
+    ∷ hex 22 0x3D_0B_1817161514131211_0000_0000_FFFFFFFFFFFF0000 gives says 0 281449761806750 22 []
+    -- length 5 and draw 7 once more: two draws are passed over
+    ∷ hex 22 0x3D_0B_1817161514131211_0000_0500_0700000000000000 gives says 0 1440521340727193 22 []
+    -- draw 8, which is free
+    ∷ hex 22 0x3D_0B_1817161514131211_0000_0500_0800000000000000 gives says 0 1407374883553288 22 []
+    -- length 0 and draw 7: the handles that are in use have another length
+    ∷ hex 22 0x3D_0B_1817161514131211_0000_0000_0700000000000000 gives says 0 7 22 []
     -- draw 281474976710656
     ∷ hex 22 0x3D_0B_1817161514131211_0000_0000_0000000000000100 gives says 12 0 22 []
     -- E: heap read at 256 of length 0
@@ -145,8 +151,8 @@ questions =
     ∷ hex 2 0x01_04 gives says 4 0 2 []
     -- a chain by way 1, with identity 0: none runs
     ∷ hex 21 0x67_0F_01_0000000000000000_0700000000000500_0000 gives says 4 0 21 []
-    -- report: two services, two log rows, four escrow rows
-    ∷ hex 2 0x01_0D gives says 0 262658 2 []
+    -- report: two services, two log rows, seven escrow rows
+    ∷ hex 2 0x01_0D gives says 0 459266 2 []
     -- hand over: place 0
     ∷ hex 3 0x03_0E_00 gives says 0 0 3 []
     -- heap read: the last three bytes, retained

@@ -10,6 +10,7 @@ pub mod Refusals
 pub mod Answers
 pub mod History
 pub mod Accuracy
+pub mod Draws
 pub mod Secrecy
 pub mod OneCall
 pub mod Demands

@@ -68,9 +68,9 @@ hasHandle h r = eqb (r .key .handle .0) (h .0)
 unfoldable pub handleOf : ℕ → ℕ → Handle
 handleOf size draw = record { 0 = size * 2 ^ 48 + draw }
 
--- the draw after a draw whose handle is in an escrow row
+-- the draw after a draw whose handle is in an escrow row, as POSIX defines for drand48 (5DEECE66D and B in hexadecimal)
 unfoldable pub next : ℕ → ℕ
-next draw = (draw + 1) % 2 ^ 48
+next draw = (25214903917 * draw + 11) % 2 ^ 48
 
 -- the handle of the first free draw, where at most n are passed over
 unfoldable pub freeFrom : ℕ → ℕ → ℕ → List Escrowed → Handle

@@ -11,7 +11,7 @@ use Rattle.fnv.specs.Fnv.{little}
 use Rattle.record.specs.Call.{Call, create, heapWrite, heapRead, attest, protect, retrieve, report, handOver, chain}
 use Rattle.record.specs.Write.{write}
 use Rattle.ideal.specs.Tables.{Tables}
-use Rattle.ideal.specs.Step.{Answer}
+use Rattle.ideal.specs.Step.{handleOf, next, Answer}
 use Rattle.ideal.specs.Box.{Element, Result, elementAt, tablesAfter, tablesBefore, answerAt}
 use Rattle.ideal.specs.Secrecy.{AlikeLists, Premise, ownChain}
 
@@ -31,9 +31,9 @@ calls b =
     -- 1 escrows the secret for 2
     ∷ heapWrite 0 1 (b ∷ [])
     ∷ protect 2 1 1 (record { 0 = 7 })
-    -- 2 retrieves it and reads it
+    -- 2 retrieves it, by the handle of the draw after 7, and reads it
     ∷ handOver 1
-    ∷ retrieve 1 0 (record { 0 = 2 ^ 48 + 8 })
+    ∷ retrieve 1 0 (handleOf 1 (next 7))
     ∷ heapRead 1 0 1
     -- 3 retrieves what 1 escrowed for it
     ∷ handOver 2

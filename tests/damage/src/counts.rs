@@ -2,7 +2,7 @@
 
 use std::process::ExitCode;
 
-use differential::{Chains, HandOvers, Held, LevelOne, Missing, Traced};
+use differential::{Chains, Draws, HandOvers, Held, LevelOne, Missing, Traced};
 use interface::{Both, Sides, Tally};
 use second::Answer;
 
@@ -11,6 +11,9 @@ const HAND_OVERS: u64 = 100;
 
 /// More chains of each sort than this are asked for on sound boxes.
 const CHAINS: u64 = 20;
+
+/// More protects of each sort than this are accepted on sound boxes.
+const DRAWS: u64 = 50;
 
 /// More cut records that miss 1 to 8 bytes, of each sort, and that miss more.
 const CUT: u64 = 100;
@@ -54,6 +57,7 @@ pub struct Counts {
     /// Those on sound boxes, by the proved side's running place.
     hand_overs: HandOvers,
     chains: Chains,
+    draws: Draws,
     level_one: LevelOne,
     /// Calls with code 1, by what the record misses.
     missing: Missing,
@@ -105,6 +109,7 @@ impl Counts {
         }
         self.hand_overs.add(running, record, full.code.into());
         self.chain(sides, record, full);
+        self.handle(sides, record, full);
         self.follows(sides, record, full.code, level_one.code);
         Some(both)
     }
@@ -130,6 +135,16 @@ impl Counts {
         let (held, runner) = (Held::of(&sides.second), runner.unwrap_or(0));
         let follows = self.chains.add(&held, runner, record, answer.code, answer.number);
         self.tally.check(follows, || format!("a chain on these tables: {record:02x?}"));
+    }
+
+    /// The handle that a protect gets follows from what the tables held before it.
+    fn handle(&mut self, sides: &Sides, record: &[u8], answer: &Answer) {
+        if answer.code != 0 || record[1] != 11 {
+            return;
+        }
+        let held = Held::of(&sides.second);
+        let follows = self.draws.add(&held, record, answer.code, answer.number);
+        self.tally.check(follows, || format!("a handle on these tables: {record:02x?}"));
     }
 
     /// One writing, and whether both sides agree.
@@ -167,7 +182,8 @@ impl Counts {
         }
     }
 
-    /// Hand overs of each sort were met, chains, cut records and level-one calls.
+    /// Hand overs of each sort were met, chains, protects, cut records and level-one
+    /// calls.
     pub fn summary(mut self) -> ExitCode {
         println!("{}", self.hand_overs);
         let often = self.hand_overs.each_above(HAND_OVERS);
@@ -175,6 +191,9 @@ impl Counts {
         println!("{}", self.chains);
         let often = self.chains.each_above(CHAINS);
         self.tally.check(often, || format!("chains of each sort above {CHAINS}"));
+        println!("{}", self.draws);
+        let often = self.draws.each_above(DRAWS);
+        self.tally.check(often, || format!("protects of each sort above {DRAWS}"));
         println!("{}", self.level_one);
         let often = self.level_one.each_above(LEVEL_ONE);
         self.tally.check(often, || format!("level-one calls of each sort above {LEVEL_ONE}"));

@@ -11,7 +11,8 @@ pub fn bases() -> [Host; 4] {
 }
 
 /// Identities 77 and 88 in places 2 and 5, 77 running; values of these lengths
-/// logged and escrowed, all of them different.
+/// logged and escrowed, all of them different. They are escrowed with three draws in
+/// turn, so that handles of one length follow one another.
 fn base(lengths: &[u16]) -> Host {
     let mut host = Host::fresh();
     accept(&mut host, create(2, 77));
@@ -24,7 +25,7 @@ fn base(lengths: &[u16]) -> Host {
         bytes[0] = 255;
         accept(&mut host, heap_write(2, 0, &bytes));
         accept(&mut host, attest(0, length));
-        accept(&mut host, protect(88, 0, length, 1_000 * n as u64));
+        accept(&mut host, protect(88, 0, length, 1_000 * (n as u64 % 3)));
     }
     host
 }

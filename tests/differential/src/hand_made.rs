@@ -1,7 +1,8 @@
 //! Sound boxes that no level-one paper leads to, written row by row: taken places
 //! above 3, of which one may run, several values of one identity, full logs with
-//! and without a row of who runs, escrowed values. And records on which 21, 22 and
-//! 23 and their neighbours hang.
+//! and without a row of who runs, escrowed values whose draws follow one another. And
+//! records on which 21, 22 and 23 and their neighbours hang, and protects that pass
+//! over draws.
 
 use second::{
     tag_of, Call, EscrowRow, Handle, Host, LogRow, DRAW_LIMIT, HEAP_SIZE, NONE_RUNS, PLACES, ROWS,
@@ -13,6 +14,7 @@ use crate::calls::{
     shared_read, shared_write,
 };
 use crate::clauses::taken;
+use crate::draws::{after, next};
 use crate::held::Held;
 use crate::random::Random;
 
@@ -22,8 +24,13 @@ const HEAP: &[u8; 6] = b"AABABC";
 /// The taken places and their identities. 1 has three places, 2 has two.
 const SERVICES: [(usize, u64); 6] = [(0, 1), (1, 2), (2, 1), (5, 1), (9, 3), (15, 2)];
 
+/// The first draw of the values of no bytes that follow one another, and which of
+/// the draws after it is free.
+const FIRST: u64 = 500;
+const FREE: usize = 40;
+
 /// Each log beside each running place, none included, with no escrowed values,
-/// some or as many as there are rows.
+/// some, as many as there are rows, or all but two.
 pub fn hand_made() -> Vec<Host> {
     let running = SERVICES.iter().map(|&(place, _)| place as u8).chain([NONE_RUNS]);
     let running: Vec<u8> = running.collect();
@@ -32,7 +39,7 @@ pub fn hand_made() -> Vec<Host> {
         for &place in &running {
             let mut host = services(place);
             log.iter().for_each(|(identity, value)| put_logged(&mut host, *identity, value));
-            put_escrows(&mut host, boxes.len() % 3);
+            put_escrows(&mut host, boxes.len() % 4);
             boxes.push(host);
         }
     }
@@ -129,27 +136,48 @@ fn put_escrows(host: &mut Host, many: usize) {
             put_escrowed(host, recipient, 10 + recipient, &own(10 + recipient));
         }
     }
-    if many > 1 {
-        (6..ROWS as u64).for_each(|draw| put_escrowed(host, 1, draw, &[]));
+    match many {
+        2 => (6..ROWS as u64).for_each(|draw| put_escrowed(host, 1, draw, &[])),
+        // The last draw stands in the first of these rows.
+        3 => (0..57).rev().filter(|&n| n != FREE).for_each(|n| {
+            put_escrowed(host, 1, after(FIRST, n), &[]);
+        }),
+        _ => {}
     }
 }
 
 /// One alteration that leaves a sound box sound: another service runs or none, a
-/// byte of a heap, another identity in a taken place, a row more in the log.
+/// byte of a heap, another identity in a taken place, a row more in the log, another
+/// draw in a handle.
 pub fn alter(host: &mut Host, random: &mut Random) {
     let taken: Vec<u8> = (0..PLACES as u8).filter(|&n| taken(host, n.into())).collect();
     let place = if taken.is_empty() { NONE_RUNS } else { random.pick(&taken) };
     let index = usize::from(place);
-    match random.below(4) {
+    match random.below(5) {
         _ if place == NONE_RUNS => flip_shared(host, random),
         0 => host.record.running = if random.once_in(8) { NONE_RUNS } else { place },
         1 => host.heaps[HEAP_SIZE * index + random.index(6)] = random.pick(b"ABC"),
         2 => host.record.identities[index] = random.between(1, 4).into(),
+        3 => redraw(host, random),
         _ => {
             let count = random.index(4);
             let value: Vec<u8> = (0..count).map(|_| random.pick(b"ABC")).collect();
             put_logged_once(host, random.pick(&host.record.identities).max(1), &value);
         }
+    }
+}
+
+/// A row's draw becomes the one after another row's, where that handle is free.
+fn redraw(host: &mut Host, random: &mut Random) {
+    let rows = &mut host.escrow[..usize::from(host.record.escrow_rows)];
+    if rows.is_empty() {
+        return;
+    }
+    let (n, other) = (random.index(rows.len()), random.index(rows.len()));
+    let draw = next(rows[other].handle.0 % DRAW_LIMIT);
+    let handle = Handle(u64::from(rows[n].length) * DRAW_LIMIT + draw);
+    if rows.iter().all(|row| row.handle != handle) {
+        rows[n].handle = handle;
     }
 }
 
@@ -167,9 +195,24 @@ fn put_logged_once(host: &mut Host, identity: u64, value: &[u8]) {
     }
 }
 
+/// Protects of no bytes, and of one, with draws that are in use in some of the boxes
+/// and with others near them.
+fn drawn() -> Vec<Call<'static>> {
+    let mut calls = Vec::new();
+    for n in [0, 1, 38, 39, 40, 41, 55, 56, 57] {
+        calls.push(protect(2, 0, 0, after(FIRST, n)));
+        calls.push(protect(2, 0, 1, after(FIRST, n)));
+    }
+    for draw in [0, 1, 2, 3, 4, 6, 63, 64, next(1), next(6), FIRST + 1] {
+        calls.extend([protect(2, 0, 0, draw), protect(2, 0, 1, draw), protect(2, 0, 17, draw)]);
+    }
+    calls
+}
+
 /// Whole records of every kind.
 pub fn records() -> Vec<Vec<u8>> {
     let mut calls = vec![Call::Report, Call::Exit];
+    calls.extend(drawn());
     for place in [0, 1, 2, 3, 4, 5, 8, 9, 14, 15, 16, 17, 255] {
         calls.extend([create(place, 0), create(place, 4), create(place, 1)]);
     }
@@ -203,6 +246,7 @@ pub fn records() -> Vec<Vec<u8>> {
 mod tests {
     use super::*;
     use crate::clauses::broken;
+    use crate::draws::Draws;
     use crate::held::Traced;
     use crate::level_one::LevelOne;
     use crate::play::play;
@@ -231,10 +275,11 @@ mod tests {
     }
 
     /// Every sort comes, and `second` answers what follows from what is held, the
-    /// full box and level one.
+    /// full box and level one. The longest search passes over all draws before the free
+    /// one.
     #[test]
     fn second_answers_each_sort() {
-        let mut counted = LevelOne::default();
+        let (mut counted, mut draws) = (LevelOne::default(), Draws::default());
         let records = records();
         for (n, host) in hand_made().iter().enumerate() {
             for record in &records {
@@ -244,9 +289,12 @@ mod tests {
                 let traced = Traced::of(host);
                 let follows = counted.add(&traced, record, Some(full.code), answer.code);
                 assert!(follows, "box {n}, {record:02x?}: {full:?}, {answer:?}");
+                let follows = draws.add(&traced.held, record, full.code, full.number);
+                assert!(follows, "box {n}, {record:02x?}: {full:?}");
             }
         }
-        println!("{counted}");
+        println!("{counted}\n{draws}");
         assert!(counted.each_above(20), "{counted}");
+        assert!(draws.each_above(20) && draws.most() == FREE, "{draws}");
     }
 }

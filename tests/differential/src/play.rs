@@ -12,6 +12,7 @@ use crate::calls::{
     attest, check, create, hand_over, heap_read, heap_write, protect, record_of, retrieve,
     shared_read, shared_write,
 };
+use crate::draws::{near, near_a_row};
 use crate::held::{link_value, Escrowed, Logged};
 use crate::random::Random;
 use crate::records::{self, Known};
@@ -393,18 +394,25 @@ impl<'a> Player<'a> {
         record_of(&check(identity, tag, &value))
     }
 
-    /// The draws lie on both sides of 0, so that the search for a handle wraps.
     fn protect(&mut self) -> Vec<u8> {
         let recipient = self.random.pick(&self.known.identities);
         let used = self.known.held.escrowed.iter().map(|escrowed| escrowed.value.len()).sum();
         let length = self.value_length(used);
-        let draw = self.draw();
+        let draw = self.draw(length);
         record_of(&protect(recipient, self.offset(HEAP_SIZE, length), length, draw))
     }
 
-    fn draw(&mut self) -> u64 {
+    /// One of the style's draws, which lie on both sides of 0, or one near it; or one
+    /// near a row's, so that sequences are entered anywhere.
+    fn draw(&mut self, length: u16) -> u64 {
         let draws = self.style.draws;
-        (DRAW_LIMIT - draws / 2 + self.random.below(draws)) % DRAW_LIMIT
+        let draw = (DRAW_LIMIT - draws / 2 + self.random.below(draws)) % DRAW_LIMIT;
+        let rows = &self.known.held.escrowed;
+        match self.random.below(16) {
+            0 => near(self.random, draw),
+            1 | 2 => near_a_row(self.random, rows, length).unwrap_or(draw),
+            _ => draw,
+        }
     }
 
     /// Mostly a value escrowed for the running identity, if there is one.
@@ -444,7 +452,7 @@ impl<'a> Player<'a> {
         let offset = self.offset(HEAP_SIZE, length);
         let put = match self.random.below(2) {
             0 => attest(offset, length),
-            _ => protect(self.reader(), offset, length, self.draw()),
+            _ => protect(self.reader(), offset, length, self.draw(length)),
         };
         self.planned.push_back(record_of(&put));
         record_of(&heap_write(place, offset, &value))
@@ -496,7 +504,7 @@ impl<'a> Player<'a> {
     /// value that names its own handle, or a logged and an escrowed value that
     /// name each other. Where the handle is in use the chain leads elsewhere.
     fn ring(&mut self, place: u8) -> Vec<u8> {
-        let (identity, draw) = (self.runner(), self.draw());
+        let (identity, draw) = (self.runner(), self.draw(17));
         let escrowed = Link { way: 3, identity, number: 17 * DRAW_LIMIT + draw };
         let put = record_of(&protect(identity, 0, 17, draw));
         let value = link_value(Some(escrowed), &[]);

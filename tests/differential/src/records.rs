@@ -4,6 +4,7 @@
 use second::{tag_of, write, Fields, Host, Link, DRAW_LIMIT, HEAP_SIZE, OUTPUT_SIZE, SHARED_SIZE};
 
 use crate::calls::{chain, record_of};
+use crate::draws::near_a_row;
 use crate::held::{counted, Held};
 use crate::random::Random;
 
@@ -54,7 +55,7 @@ pub fn whole(random: &mut Random, known: &Known) -> Vec<u8> {
     if kind == 15 && !random.once_in(3) {
         return held_chain(random, known);
     }
-    let fields = Fields {
+    let mut fields = Fields {
         place: match kind {
             14 => handed_over_to(random),
             15 => way(random),
@@ -65,12 +66,24 @@ pub fn whole(random: &mut Random, known: &Known) -> Vec<u8> {
         length: edge(random),
         number: number(random, known),
     };
+    if kind == 11 && random.once_in(2) {
+        used_draw(random, known, &mut fields);
+    }
     let bytes = bytes(random);
     let mut record = vec![0; 32 + bytes.len()];
     let written = write(kind, &fields, &bytes, &mut record);
     assert_eq!(written.code, 0);
     record.truncate(written.length);
     record
+}
+
+/// The length of an escrowed value and a draw near its own, where there is one.
+fn used_draw(random: &mut Random, known: &Known, fields: &mut Fields) {
+    let rows = &known.held.escrowed;
+    if !rows.is_empty() {
+        fields.length = rows[random.index(rows.len())].value.len() as u16;
+        fields.number = near_a_row(random, rows, fields.length).unwrap_or(fields.number);
+    }
 }
 
 fn place(random: &mut Random) -> u8 {

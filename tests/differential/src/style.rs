@@ -17,7 +17,8 @@ pub(crate) struct Style {
     pub values: (u16, u16),
     /// How many values a heap byte takes. With few, pairs are logged again.
     pub alphabet: u64,
-    /// How many draws there are, about 0. With few, handles collide.
+    /// How many draws there are, about 0, besides those near a row's. With few,
+    /// handles collide.
     pub draws: u64,
     /// How many identities there are.
     pub identities: usize,
@@ -27,7 +28,7 @@ pub(crate) struct Style {
     pub calls: u16,
 }
 
-pub(crate) const STYLES: [Style; 10] = [
+pub(crate) const STYLES: [Style; 11] = [
     // Many short values: the rows run out.
     Style {
         kinds: &[5, 5, 6, 9, 9, 9, 9, 9, 10, 11, 11, 11, 11, 11, 12, 13, 14],
@@ -77,6 +78,16 @@ pub(crate) const STYLES: [Style; 10] = [
         identities: 2,
         loose: 25,
         calls: 300,
+    },
+    // One length and one draw: a protect passes over most rows before it.
+    Style {
+        kinds: &[5, 5, 9, 11, 11, 11, 11, 11, 11, 12, 13, 14],
+        values: (2, 2),
+        alphabet: 4,
+        draws: 1,
+        identities: 2,
+        loose: 40,
+        calls: 240,
     },
     // Shared memory.
     Style {

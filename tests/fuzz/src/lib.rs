@@ -2,16 +2,18 @@
 //! box and `second` must agree after each call, in the number too, and never
 //! answer 5, which is retired. Each call is made under both profiles, the full box
 //! and level one, and goes on with one of them. What a cut record misses is tried
-//! out; where a chain leads, and what level one refuses, is told from the tables.
+//! out; where a chain leads, which handle is free, and what level one refuses, is
+//! told from the tables.
 
 #![deny(unsafe_op_in_unsafe_fn)]
 
 use std::slice;
 
+use differential::draws::after;
 use differential::records::WRONG_OUTPUT_SIZES;
-use differential::{bases, hand_made, play, Chains, Held, LevelOne, Traced};
+use differential::{bases, hand_made, play, Chains, Draws, Held, LevelOne, Traced};
 use interface::{write, Both, Fields, Profile, Sides};
-use second::{read, Answer, Call, EscrowRow, Host, LogRow, OUTPUT_SIZE, ROWS};
+use second::{read, Answer, Call, EscrowRow, Host, LogRow, DRAW_LIMIT, OUTPUT_SIZE, ROWS};
 
 thread_local! {
     static BOXES: Vec<Host> = {
@@ -60,7 +62,7 @@ impl Input<'_> {
 fn alter(host: &mut Host, input: &mut Input) {
     let (part, at, value) = (input.byte(), input.word(), input.word());
     let short = value as u16;
-    match part % 20 {
+    match part % 21 {
         0 => host.record.taken ^= short,
         1 => host.record.running = value as u8,
         2 => host.record.identities[at % 16] = value as u64,
@@ -75,6 +77,7 @@ fn alter(host: &mut Host, input: &mut Input) {
         16 => set(&mut host.heaps, at, value),
         17 => set(&mut host.log_values, at, value),
         18 => set(&mut host.escrow_values, at, value),
+        19 => redraw(&mut host.escrow, at, value),
         _ => resize(host, at, value),
     }
 }
@@ -95,6 +98,15 @@ fn alter_escrow(row: &mut EscrowRow, part: usize, at: usize, value: usize) {
         2 => row.handle.0 ^= (value as u64) << (at / ROWS % 64),
         3 => row.first = value as u16,
         _ => row.length = value as u16,
+    }
+}
+
+/// A row's draw becomes another's, or one of the next few after it.
+fn redraw(rows: &mut [EscrowRow], at: usize, value: usize) {
+    let draw = rows.get(value % ROWS).map_or(0, |row| row.handle.0 % DRAW_LIMIT);
+    if let Some(row) = rows.get_mut(at % ROWS) {
+        let draw = after(draw, value / ROWS % 4);
+        row.handle.0 = u64::from(row.length) * DRAW_LIMIT + draw;
     }
 }
 
@@ -126,6 +138,7 @@ fn calls(profile: Profile, mut sides: Sides, mut rest: &[u8]) {
             writings(&call, &rest[..used]);
         }
         chain(&sides, rest, &both.full.0);
+        handle(&sides, rest, &both.full.0);
         level_one(&sides, rest, &both);
         let (answer, left) = match profile {
             Profile::Full => both.full,
@@ -162,6 +175,16 @@ fn chain(sides: &Sides, record: &[u8], answer: &Answer) {
     let second::BoxRecord { running, identities, .. } = sides.second.record;
     let runner = identities.get(usize::from(running)).copied().unwrap_or(0);
     let follows = Chains::default().add(&held, runner, record, answer.code, answer.number);
+    assert!(follows, "{answer:?}: {record:02x?}");
+}
+
+/// A protect's handle is the one that follows from what the tables hold.
+fn handle(sides: &Sides, record: &[u8], answer: &Answer) {
+    if answer.code != 0 || record[1] != 11 {
+        return;
+    }
+    let held = Held::of(&sides.second);
+    let follows = Draws::default().add(&held, record, answer.code, answer.number);
     assert!(follows, "{answer:?}: {record:02x?}");
 }
 

@@ -4,6 +4,7 @@
 
 mod calls;
 mod desk;
+mod draws;
 mod layout;
 mod level_one;
 mod refusals;
@@ -16,6 +17,7 @@ fn main() -> ExitCode {
     let mut tally = Tally::default();
     layout::check(&mut tally);
     calls::check(&mut tally);
+    draws::check(&mut tally);
     refusals::check(&mut tally);
     level_one::check(&mut tally);
     desk::check(&mut tally);

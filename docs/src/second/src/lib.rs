@@ -1,7 +1,8 @@
-//! The box of document 01, amended by requests P1 to P6 of document 02: places with
+//! The box of document 01, amended by requests P1 to P7 of document 02: places with
 //! heaps, shared memory, a log and an escrow, worked by thirteen calls, as the full
 //! box or as the level-one paper (P5), and the tank desk over it (P6). P4 altered no
-//! answer. A second program, written from those documents alone.
+//! answer, and P7 only the handles of draws that are in use. A second program,
+//! written from those documents alone.
 
 #![forbid(unsafe_code)]
 

@@ -17,6 +17,10 @@ pub struct Handle(pub u64);
 #[derive(Clone, Copy, Debug, Default, PartialEq, Eq)]
 pub struct Draw(pub u64);
 
+/// The multiplier and the increment of POSIX's drand48. Its modulus is 2^48.
+const DRAW_MULTIPLIER: u64 = 25_214_903_917;
+const DRAW_INCREMENT: u64 = 11;
+
 const FNV_START: u64 = 14_695_981_039_346_656_037;
 const FNV_PRIME: u64 = 1_099_511_628_211;
 
@@ -39,8 +43,8 @@ pub fn tag_of(identity: Identity, value: &[u8]) -> Tag {
 
 impl Handle {
     /// The handle of a length and a draw below 2^48.
-    fn new(length: u16, draw: u64) -> Self {
-        Handle(u64::from(length) * DRAW_LIMIT + draw)
+    fn new(length: u16, draw: Draw) -> Self {
+        Handle(u64::from(length) * DRAW_LIMIT + draw.0)
     }
 
     /// The length the handle carries.
@@ -49,17 +53,23 @@ impl Handle {
     }
 }
 
-/// The handle of the first of `draw`, `draw` + 1, and so on modulo 2^48 that is
-/// in none of `rows`. The draw must be below 2^48. Each candidate passed over is
-/// in a row of its own, so at most as many are as there are rows.
-pub(crate) fn free_handle(rows: &[EscrowRow], length: u16, draw: Draw) -> Handle {
-    let mut draw = draw.0;
+/// The draw after one whose handle is in use, as POSIX's drand48 has it. 2^48
+/// divides 2^64, so a product that wraps there has the right remainder.
+fn next_draw(draw: Draw) -> Draw {
+    Draw(draw.0.wrapping_mul(DRAW_MULTIPLIER).wrapping_add(DRAW_INCREMENT) % DRAW_LIMIT)
+}
+
+/// The handle of the first of `draw`, the draw after it, and so on that is in none
+/// of `rows`. The draw must be below 2^48. The sequence runs through all draws
+/// before one comes again, so each candidate passed over is in a row of its own, and
+/// at most as many are as there are rows.
+pub(crate) fn free_handle(rows: &[EscrowRow], length: u16, mut draw: Draw) -> Handle {
     loop {
         let handle = Handle::new(length, draw);
         if rows.iter().all(|row| row.handle != handle) {
             return handle;
         }
-        draw = (draw + 1) % DRAW_LIMIT;
+        draw = next_draw(draw);
     }
 }
 
@@ -100,31 +110,81 @@ mod tests {
         assert_eq!(tag_of(1, b""), Tag(fnv1a(&[1, 0, 0, 0, 0, 0, 0, 0])));
     }
 
+    /// In other arithmetic than the box has.
+    fn wide_next(draw: u64) -> u64 {
+        ((25_214_903_917 * u128::from(draw) + 11) % (1 << 48)) as u64
+    }
+
+    /// srand48(0) begins at 0x330E. lrand48 gives the upper 31 of a draw's 48 bits,
+    /// and these three after it.
     #[test]
-    fn handles_pass_over_taken_ones_and_wrap() {
+    fn draws_follow_posix() {
+        let mut draw = Draw(0x330E);
+        for lrand48 in [366_850_414, 1_610_402_240, 206_956_554] {
+            draw = next_draw(draw);
+            assert_eq!(draw.0 >> 17, lrand48);
+        }
+        let after = [(0, 11), (7, 176_504_327_430), (DRAW_LIMIT - 1, 281_449_761_806_750)];
+        for (draw, next) in after {
+            assert_eq!(next_draw(Draw(draw)), Draw(next));
+        }
+    }
+
+    /// Every bit of a draw counts, alone and with all others.
+    #[test]
+    fn no_bit_of_a_draw_is_lost() {
+        for bit in 0..48 {
+            for draw in [1 << bit, DRAW_LIMIT - 1 - (1 << bit), (1 << bit) - 1] {
+                let next = next_draw(Draw(draw));
+                assert_eq!(next, Draw(wide_next(draw)), "{draw}");
+                assert!(next.0 < DRAW_LIMIT);
+            }
+        }
+    }
+
+    fn row(handle: u64) -> EscrowRow {
+        EscrowRow { source: 1, recipient: 1, handle: Handle(handle), first: 0, length: 0 }
+    }
+
+    #[test]
+    fn handles_pass_over_taken_ones() {
         let last = DRAW_LIMIT - 1;
-        let row = |handle| EscrowRow {
-            source: 1,
-            recipient: 1,
-            handle: Handle(handle),
-            first: 0,
-            length: 0,
-        };
+        let (second, third) = (wide_next(last), wide_next(wide_next(last)));
         assert_eq!(free_handle(&[], 0, Draw(last)), Handle(last));
-        assert_eq!(free_handle(&[row(last)], 0, Draw(last)), Handle(0));
-        let rows = [row(0), row(last), row(1)];
-        assert_eq!(free_handle(&rows, 0, Draw(last)), Handle(2));
+        assert_eq!(free_handle(&[row(last)], 0, Draw(last)), Handle(second));
+        let rows = [row(second), row(last)];
+        assert_eq!(free_handle(&rows, 0, Draw(last)), Handle(third));
+        // A later candidate in use leaves the one before it free, and a draw that is
+        // free is not passed over.
+        assert_eq!(free_handle(&[row(third), row(last)], 0, Draw(last)), Handle(second));
+        assert_eq!(free_handle(&[row(second), row(third)], 0, Draw(last)), Handle(last));
+        // The numbers beside a draw make no difference.
+        let rows = [row(last), row(0), row(1), row(last - 1)];
+        assert_eq!(free_handle(&rows, 0, Draw(last)), Handle(second));
         // Another length is another handle.
         assert_eq!(free_handle(&rows, 256, Draw(last)), Handle(256 * DRAW_LIMIT + last));
-        // 64 candidates passed over.
-        let rows: Vec<_> = (0..64).map(|n| row((last + n) % DRAW_LIMIT)).collect();
-        assert_eq!(free_handle(&rows, 0, Draw(last)), Handle(63));
+        let rows = [row(last), row(256 * DRAW_LIMIT + second)];
+        assert_eq!(free_handle(&rows, 0, Draw(last)), Handle(second));
+    }
+
+    /// Whatever the first draw is, and in whatever order the rows stand.
+    #[test]
+    fn handles_pass_over_64() {
+        for first in [0, 7, 1 << 47, DRAW_LIMIT - 1] {
+            let sequence = std::iter::successors(Some(first), |&draw| Some(wide_next(draw)));
+            let draws: Vec<u64> = sequence.take(65).collect();
+            let mut rows: Vec<_> = draws[..64].iter().map(|&draw| row(draw)).collect();
+            for _ in 0..2 {
+                assert_eq!(free_handle(&rows, 0, Draw(first)), Handle(draws[64]));
+                rows.reverse();
+            }
+        }
     }
 
     #[test]
     fn handle_carries_its_length() {
-        assert_eq!(Handle::new(5, 7), Handle(1_407_374_883_553_287));
-        assert_eq!(Handle::new(5, 7).length(), 5);
-        assert_eq!(Handle::new(256, DRAW_LIMIT - 1).length(), 256);
+        assert_eq!(Handle::new(5, Draw(7)), Handle(1_407_374_883_553_287));
+        assert_eq!(Handle::new(5, Draw(7)).length(), 5);
+        assert_eq!(Handle::new(256, Draw(DRAW_LIMIT - 1)).length(), 256);
     }
 }

@@ -32,6 +32,26 @@ fn prints_the_sheet() {
     assert_eq!(run(scripts[4]), b"code number used bytes\n0 0 2 -\n1 2 0 -\n");
 }
 
+/// Exam cases A to D: a draw again gets the draw after it.
+#[test]
+fn prints_the_handles_of_a_draw_again() {
+    let mut script = vec![7, 1, 0, 1, 0, 0, 0, 0, 0, 0, 0, 3, 14, 0];
+    for (length, draw) in [(5, 7_u64), (0, 281_474_976_710_655)] {
+        let protect = [0x3D, 11, 1, 0, 0, 0, 0, 0, 0, 0, 0, 0, length, 0];
+        script.extend([&protect[..], &draw.to_le_bytes()].concat().repeat(2));
+    }
+    let printed = "\
+code number used bytes
+0 0 11 -
+0 0 3 -
+0 1407374883553287 22 -
+0 1407551387880710 22 -
+0 281474976710655 22 -
+0 281449761806750 22 -
+";
+    assert_eq!(run(&script), printed.as_bytes());
+}
+
 #[test]
 fn scripts_at_the_limit() {
     for length in [65_535, 65_536, 65_537] {

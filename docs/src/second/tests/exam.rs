@@ -1,10 +1,29 @@
 //! Document 01's exam cases, traps, boundaries and order of refusals, the hand
-//! overs of document 02's P1, the missing bytes of its P2, the chains of its P3 and
-//! the level-one paper of its P5, through the library's own doors.
+//! overs of document 02's P1, the missing bytes of its P2, the chains of its P3, the
+//! level-one paper of its P5 and the draws of its P7, through the library's own
+//! doors.
 
 use second::*;
 
 const LAST_DRAW: u64 = 281_474_976_710_655;
+
+/// The draw so many after this one, as POSIX's drand48 has them. Computed apart from
+/// the box.
+fn after(draw: u64, many: usize) -> u64 {
+    let next = |draw| (25_214_903_917 * u128::from(draw) + 11) % (1 << 48);
+    (0..many).fold(draw, |draw, _| next(draw) as u64)
+}
+
+/// The handle that an accepted protect should get on this box: the first of its
+/// draw's sequence that is in no row.
+fn wanted_handle(host: &Host, record: &[u8]) -> u64 {
+    let number = |bytes: &[u8]| bytes.iter().rev().fold(0, |n, &b| 256 * n + u64::from(b));
+    let (length, draw) = (number(&record[12..14]), number(&record[14..22]));
+    let used = &host.escrow[..usize::from(host.record.escrow_rows)];
+    let mut candidates = (0..=64).map(|n| length * DRAW_LIMIT + after(draw, n));
+    let free = |handle: &u64| used.iter().all(|row| row.handle.0 != *handle);
+    candidates.find(free).expect("at most 64 are passed over")
+}
 
 fn record_of(call: &Call) -> Vec<u8> {
     let mut record = vec![0; 66_000];
@@ -42,9 +61,10 @@ fn logged_another(host: &Host, record: &[u8]) -> bool {
 
 /// A host with its output buffer, which tests at each call what holds of all:
 /// the box stays sound, a refusal and a chain alter nothing, 1 is the only refusal
-/// with a number other than 0 and never has 0, only reads touch the output. Each
-/// call is made under both profiles: the full box never gives 21, 22 or 23, the
-/// level-one paper gives them where it should, and else the two are one.
+/// with a number other than 0 and never has 0, only reads touch the output, a handle
+/// is its draw's first free one. Each call is made under both profiles: the full box
+/// never gives 21, 22 or 23, the level-one paper gives them where it should, and else
+/// the two are one.
 struct Bench {
     host: Host,
     output: Vec<u8>,
@@ -109,6 +129,9 @@ impl Bench {
         if answer.code != 0 || record[1] == 15 {
             assert!(self.host == host);
         }
+        if answer.code == 0 && record[1] == 11 {
+            assert_eq!(answer.number, wanted_handle(&host, record));
+        }
         answer
     }
 
@@ -166,18 +189,23 @@ impl Bench {
 fn a_b_handles() {
     let mut bench = Bench::busy();
     assert_eq!(bench.protect(2, 0, 5, 7), 1_407_374_883_553_287);
-    assert_eq!(bench.protect(2, 0, 5, 7), 1_407_374_883_553_288);
+    assert_eq!(bench.protect(2, 0, 5, 7), 1_407_551_387_880_710);
+    // The numbers beside the draw were not touched.
+    assert_eq!(bench.protect(2, 0, 5, 8), 1_407_374_883_553_288);
+    assert_eq!(bench.protect(2, 0, 5, 6), 1_407_374_883_553_286);
 }
 
 #[test]
-fn c_d_handles_wrap() {
+fn c_d_handles_at_the_last_draw() {
     let mut bench = Bench::busy();
-    assert_eq!(bench.protect(2, 0, 0, LAST_DRAW), LAST_DRAW);
-    assert_eq!(bench.protect(2, 0, 0, LAST_DRAW), 0);
-    assert_eq!(bench.protect(2, 0, 0, LAST_DRAW), 1);
-    assert_eq!(bench.protect(2, 0, 0, 0), 2);
+    assert_eq!(bench.protect(2, 0, 0, LAST_DRAW), 281_474_976_710_655);
+    assert_eq!(bench.protect(2, 0, 0, LAST_DRAW), 281_449_761_806_750);
+    assert_eq!(bench.protect(2, 0, 0, LAST_DRAW), 76_003_201_113_169);
+    assert_eq!(bench.protect(2, 0, 0, 281_449_761_806_750), 59_440_590_197_896);
+    assert_eq!(bench.protect(2, 0, 0, 0), 0);
+    assert_eq!(bench.protect(2, 0, 0, 0), 11);
     assert_eq!(bench.protect(2, 0, 256, LAST_DRAW), 256 * DRAW_LIMIT + LAST_DRAW);
-    assert_eq!(bench.protect(2, 0, 256, LAST_DRAW), 256 * DRAW_LIMIT);
+    assert_eq!(bench.protect(2, 0, 256, LAST_DRAW), 256 * DRAW_LIMIT + 281_449_761_806_750);
 }
 
 #[test]
@@ -373,12 +401,52 @@ fn exit_leaves_the_other_heaps() {
 #[test]
 fn free_handle_among_all_rows() {
     let mut bench = Bench::busy();
-    assert_eq!(bench.protect(2, 0, 5, 7), 5 * DRAW_LIMIT + 7);
-    assert_eq!(bench.protect(3, 0, 5, 7), 5 * DRAW_LIMIT + 8);
+    let of_five = |many| 5 * DRAW_LIMIT + after(7, many);
+    assert_eq!(bench.protect(2, 0, 5, 7), of_five(0));
+    assert_eq!(bench.protect(3, 0, 5, 7), of_five(1));
     bench.switch(1);
-    assert_eq!(bench.protect(1, 0, 5, 7), 5 * DRAW_LIMIT + 9);
-    assert_eq!(bench.protect(1, 0, 5, 8), 5 * DRAW_LIMIT + 10);
+    assert_eq!(bench.protect(1, 0, 5, 7), of_five(2));
+    assert_eq!(bench.protect(1, 0, 5, after(7, 1)), of_five(3));
     assert_eq!(bench.protect(1, 0, 6, 7), 6 * DRAW_LIMIT + 7);
+}
+
+/// Rows that hold all but one of 63 candidates, drawn one by one. The free one is
+/// given, wherever it stands, and then the one behind them all.
+#[test]
+fn free_draw_in_the_middle_is_given() {
+    for free in [0, 1, 2, 40, 61, 62] {
+        let mut bench = Bench::busy();
+        for n in (0..63).rev().filter(|&n| n != free) {
+            assert_eq!(bench.protect(2, 0, 0, after(7, n)), after(7, n));
+        }
+        assert_eq!(bench.protect(3, 0, 0, 7), after(7, free));
+        assert_eq!(bench.protect(3, 0, 0, after(7, 20)), after(7, 63));
+    }
+}
+
+/// A draw in use under another length is free.
+#[test]
+fn free_handle_of_another_length() {
+    let mut bench = Bench::busy();
+    for length in [0, 1, 2, 255, 256] {
+        for many in 0..3 {
+            let handle = u64::from(length) * DRAW_LIMIT + after(LAST_DRAW, many);
+            assert_eq!(bench.protect(2, 0, length, LAST_DRAW), handle);
+        }
+    }
+}
+
+/// Each bit of a draw reaches the one after it, and that is below 2^48.
+#[test]
+fn draws_of_one_bit() {
+    for bits in [0..24, 24..48] {
+        let mut bench = Bench::busy();
+        for bit in bits {
+            let draw = 1 << bit;
+            assert_eq!(bench.protect(2, 0, 0, draw), draw);
+            assert_eq!(bench.protect(2, 0, 0, draw), after(draw, 1));
+        }
+    }
 }
 
 // Hand over.
@@ -670,7 +738,7 @@ fn rings_run_to_20() {
     bench.chain(20, own, b"");
     bench.chain(20, own, b"left over");
     // A logged and an escrowed value that name each other.
-    let escrowed = Link { number: own.number + 1, ..own };
+    let escrowed = Link { number: 17 * DRAW_LIMIT + after(7, 1), ..own };
     let value = link_value(Some(escrowed));
     let logged = bench.put_link(WAY_LOGGED, &value);
     assert_eq!(bench.put_link(WAY_ESCROWED, &link_value(Some(logged))), escrowed);
@@ -816,7 +884,7 @@ fn escrow_of_4096_bytes() {
     let mut bench = Bench::busy();
     for n in 0..15 {
         bench.put(0, &[n + 1; 256]);
-        assert_eq!(bench.protect(1, 0, 256, 0), 256 * DRAW_LIMIT + u64::from(n));
+        assert_eq!(bench.protect(1, 0, 256, 0), 256 * DRAW_LIMIT + after(0, n.into()));
     }
     bench.put(0, &[16; 256]);
     bench.protect(1, 0, 255, 0);
@@ -830,7 +898,7 @@ fn escrow_of_4096_bytes() {
     assert_eq!(bench.accept(protect(0)), 0);
     assert_eq!(bench.host.escrow[17].first, 4_096);
     for n in 0..15u8 {
-        let handle = Handle(256 * DRAW_LIMIT + u64::from(n));
+        let handle = Handle(256 * DRAW_LIMIT + after(0, n.into()));
         assert_eq!(bench.accept(Call::Retrieve { identity: 1, offset: 0, handle }), 256);
         assert_eq!(bench.get(0, 256), [n + 1; 256]);
     }
@@ -839,11 +907,12 @@ fn escrow_of_4096_bytes() {
 #[test]
 fn escrow_of_64_rows() {
     let mut bench = Bench::busy();
+    // 50 after this draw comes 0.
+    let draw = 28_699_413_067_046;
+    assert_eq!(after(draw, 50), 0);
     for n in 0..64 {
-        // The draw is 63 before the wrap, so the search crosses it.
-        let handle = (LAST_DRAW - 62 + n) % DRAW_LIMIT;
-        assert_eq!(bench.protect(2, 0, 0, LAST_DRAW - 62), handle);
-        assert_eq!(bench.accept(Call::Report), 3 + 65_536 * (n + 1));
+        assert_eq!(bench.protect(2, 0, 0, draw), after(draw, n));
+        assert_eq!(bench.accept(Call::Report), 3 + 65_536 * (n as u64 + 1));
     }
     let protect = |draw| Call::Protect { identity: 2, offset: 0, length: 0, draw: Draw(draw) };
     bench.refuse(14, protect(5));
@@ -1555,7 +1624,7 @@ impl Random {
             0 => self.below(3),
             1 => LAST_DRAW + self.below(2),
             _ if numbers.is_empty() => 0,
-            _ if kind == 11 => self.below(2),
+            _ if kind == 11 => after(self.below(2), self.below(3) as usize),
             _ => numbers[self.below(numbers.len() as u64) as usize],
         };
         let fields = Fields {

@@ -9,6 +9,7 @@ use crate::calls::{
     attest, chain, check, create, hand_over, heap_read, heap_write, protect, retrieve,
 };
 use crate::case::Case;
+use crate::draws::next;
 use crate::held::{counted, link_value};
 
 /// The ways of a link.
@@ -628,7 +629,8 @@ fn looked_up_links() -> Case {
         case.refuse(18, chain(ESCROWED, source, given, b""));
     }
     case.refuse(9, chain(ESCROWED, 0, given, b""));
-    for wrong in [given + 1, given - 1, 7, handle(5, 7), handle(7, 7), 0, u64::MAX] {
+    let next = handle(6, next(7));
+    for wrong in [given + 1, given - 1, next, 7, handle(5, 7), handle(7, 7), 0, u64::MAX] {
         case.refuse(18, chain(ESCROWED, 1, wrong, b""));
     }
     case.refuse(18, chain(ESCROWED, 1, given.swap_bytes(), b""));

@@ -1,11 +1,13 @@
-//! Document 01's example and its exam cases, and those that hand over and the
-//! missing bytes of a cut record add.
+//! Document 01's example and its exam cases, B and D with the draws that document
+//! 02's P7 gives them, and those that hand over and the missing bytes of a cut record
+//! add.
 
 use second::{tag_of, Call};
 
 use super::{handle, three_services};
 use crate::calls::{attest, check, create, hand_over, heap_read, heap_write, protect, retrieve};
 use crate::case::Case;
+use crate::draws::after;
 
 const LAST_DRAW: u64 = 281_474_976_710_655;
 
@@ -82,15 +84,16 @@ code number used bytes
 fn a_b() -> Case {
     let mut case = three_services("exam A and B");
     case.accept(1_407_374_883_553_287, protect(2, 0, 5, 7));
-    case.accept(1_407_374_883_553_288, protect(2, 0, 5, 7));
+    case.accept(1_407_551_387_880_710, protect(2, 0, 5, 7));
+    case.accept(handle(5, after(7, 2)), protect(2, 0, 5, 7));
     case
 }
 
 fn c_d() -> Case {
     let mut case = three_services("exam C and D");
     case.accept(281_474_976_710_655, protect(2, 0, 0, LAST_DRAW));
-    case.accept(0, protect(2, 0, 0, LAST_DRAW));
-    case.accept(1, protect(2, 0, 0, LAST_DRAW));
+    case.accept(281_449_761_806_750, protect(2, 0, 0, LAST_DRAW));
+    case.accept(after(LAST_DRAW, 2), protect(2, 0, 0, LAST_DRAW));
     case
 }
 
@@ -138,9 +141,9 @@ fn cut(name: &str, missing: usize, record: &[u8]) -> Case {
 fn a_to_j() -> Case {
     let mut case = three_services("exam A to J");
     case.accept(1_407_374_883_553_287, protect(2, 0, 5, 7));
-    case.accept(1_407_374_883_553_288, protect(2, 0, 5, 7));
+    case.accept(1_407_551_387_880_710, protect(2, 0, 5, 7));
     case.accept(281_474_976_710_655, protect(2, 0, 0, LAST_DRAW));
-    case.accept(0, protect(2, 0, 0, LAST_DRAW));
+    case.accept(281_449_761_806_750, protect(2, 0, 0, LAST_DRAW));
     case.accept(0, heap_read(0, 256, 0));
     case.refuse(11, heap_read(0, 256, 1));
     case.accept(15, create(15, 1));

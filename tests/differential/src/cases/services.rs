@@ -8,6 +8,7 @@ use crate::calls::{
     shared_write,
 };
 use crate::case::Case;
+use crate::draws::next;
 
 pub fn cases() -> Vec<Case> {
     vec![
@@ -163,7 +164,8 @@ fn retrieve_tests_all_three() -> Case {
     }
     case.show(&[0; 256], heap_read(2, 0, 256));
     case.accept(0, hand_over(1));
-    for wrong in [given + 1, given - 1, 7, handle(5, 7), handle(7, 7), 0, u64::MAX] {
+    let next = handle(6, next(7));
+    for wrong in [given + 1, given - 1, next, 7, handle(5, 7), handle(7, 7), 0, u64::MAX] {
         case.refuse(10, retrieve(1, 0, wrong));
     }
     for source in [2, 3, 99, u64::MAX] {

@@ -5,6 +5,7 @@ use second::{tag_of, Call};
 use super::{handle, three_services};
 use crate::calls::{attest, check, create, hand_over, heap_read, heap_write, protect, retrieve};
 use crate::case::Case;
+use crate::draws::after;
 
 pub fn cases() -> Vec<Case> {
     let mut cases = vec![log_rows(), full_log_and_known_pairs(), escrow_rows(), both_full()];
@@ -162,13 +163,13 @@ fn both_full() -> Case {
     case.accept(64, heap_write(0, 0, &(0..64).collect::<Vec<u8>>()));
     for n in 0..64 {
         case.accept(tag_of(1, &[n]).0, attest(n.into(), 1));
-        case.accept(handle(1, n.into()), protect(1, n.into(), 1, 0));
+        case.accept(handle(1, after(0, n.into())), protect(1, n.into(), 1, 0));
     }
     case.accept(3 + 256 * 64 + 65_536 * 64, Call::Report);
     case.accept(1, heap_write(0, 0, &[99]));
     case.refuse(13, attest(0, 1));
     case.refuse(14, protect(1, 0, 1, 0));
-    case.accept(1, retrieve(1, 0, handle(1, 40)));
+    case.accept(1, retrieve(1, 0, handle(1, after(0, 40))));
     case.accept(tag_of(1, &[40]).0, attest(0, 1));
     case.accept(0, Call::Exit);
     case.accept(2 + 256 * 64 + 65_536 * 64, Call::Report);

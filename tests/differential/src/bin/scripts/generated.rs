@@ -1,9 +1,9 @@
 //! What the generated scripts come to.
 
-use differential::{lines, Case, Chains, HandOvers, LevelOne, Missing, Played};
+use differential::{lines, Case, Chains, Draws, HandOvers, LevelOne, Missing, Played};
 use second::{Profile, ROWS, VALUES_SIZE};
 
-use crate::marker::{Marker, CHAINS};
+use crate::marker::{Marker, CHAINS, DRAWS};
 
 /// More hand overs of each sort than this are in the generated scripts.
 const HAND_OVERS: u64 = 100;
@@ -20,6 +20,7 @@ pub struct Generated {
     full: Full,
     hand_overs: HandOvers,
     chains: Chains,
+    draws: Draws,
     level_one: LevelOne,
     missing: Missing,
     /// Hand overs refused and followed by a call of the service that runs.
@@ -33,6 +34,7 @@ impl Generated {
             full: Full::default(),
             hand_overs: HandOvers::default(),
             chains: Chains::default(),
+            draws: Draws::default(),
             level_one: LevelOne::default(),
             missing: Missing::default(),
             left_running: 0,
@@ -46,14 +48,19 @@ impl Generated {
         let sheet = marker.compare(&case);
         self.left_running += self.hand_overs.count(&case.script, &sheet);
         match self.profile {
-            Profile::Full => self.chains.count(&case.script, &sheet),
-            Profile::LevelOne => self.level_one.count(&case.script, &sheet),
-        };
+            Profile::Full => {
+                self.chains.count(&case.script, &sheet);
+                self.draws.count(&case.script, &sheet);
+            }
+            Profile::LevelOne => {
+                self.level_one.count(&case.script, &sheet);
+            }
+        }
         lines(&case.script, &sheet).for_each(|line| self.missing.add(line.code, line.number));
     }
 
-    /// Tables were filled; hand overs, cut records, and chains or level-one calls of
-    /// each sort came often.
+    /// Tables were filled; hand overs, cut records, and protects and chains or
+    /// level-one calls of each sort came often.
     pub fn coverage(&self, marker: &mut Marker) {
         let Generated { profile, full, hand_overs, missing, left_running, .. } = self;
         marker.tell(format!("in generated scripts, {full}\n{hand_overs}\n{missing}"));
@@ -68,6 +75,10 @@ impl Generated {
         marker.holds("cut records of each sort in generated scripts", often, otherwise);
         let (often, least) = match profile {
             Profile::Full => {
+                marker.tell(&self.draws);
+                let often = self.draws.each_above(DRAWS);
+                let otherwise = format!("not all above {DRAWS}");
+                marker.holds("protects of each sort in generated scripts", often, otherwise);
                 marker.tell(&self.chains);
                 (self.chains.each_above(CHAINS), CHAINS)
             }

@@ -3,7 +3,7 @@
 use std::ffi::OsStr;
 use std::fmt::{Display, Write};
 
-use differential::{lines, Case, Chains, LevelOne, Missing};
+use differential::{lines, Case, Chains, Draws, LevelOne, Missing};
 use second::{sheet, sheet_level_one, Profile};
 
 use crate::program::{hex, run, same};
@@ -11,6 +11,11 @@ use crate::program::{hex, run, same};
 /// More chains of each sort than this are in the fixed cases, and in the
 /// generated scripts.
 pub const CHAINS: u64 = 20;
+
+/// More protects of each sort than this are in the fixed cases, and in the generated
+/// scripts. In the fixed cases one passes over as many rows as there can be.
+pub const DRAWS: u64 = 100;
+const MOST_PASSED_OVER: usize = 63;
 
 /// More level-one calls of each sort than this are in the fixed cases.
 const LEVEL_ONE: u64 = 10;
@@ -78,8 +83,9 @@ pub struct Marker<'a> {
     missed: [bool; MISSED.len()],
     /// Lines with each code above 3, and accepted ones, for each kind byte.
     kinds: [[u64; CODES]; 16],
-    /// Chains of full papers, and calls of level-one papers.
+    /// Chains and protects of full papers, and calls of level-one papers.
     chains: Chains,
+    draws: Draws,
     level_one: LevelOne,
     /// Scripts with an answer that does not follow from what the sheet tells.
     wrong: u64,
@@ -98,6 +104,7 @@ impl<'a> Marker<'a> {
             missed: [false; MISSED.len()],
             kinds: [[0; CODES]; 16],
             chains: Chains::default(),
+            draws: Draws::default(),
             level_one: LevelOne::default(),
             wrong: 0,
         }
@@ -135,7 +142,10 @@ impl<'a> Marker<'a> {
         };
         self.count_lines(&case.script, &expected);
         let follows = match self.profile {
-            Profile::Full => self.chains.count(&case.script, &expected),
+            Profile::Full => {
+                let handles = self.draws.count(&case.script, &expected);
+                self.chains.count(&case.script, &expected) && handles
+            }
             Profile::LevelOne => self.level_one.count(&case.script, &expected),
         };
         self.wrong += u64::from(!follows);
@@ -184,7 +194,7 @@ impl<'a> Marker<'a> {
         let right = self.missing.only_with_one();
         self.holds("1 is the only refusal with a number, and never has 0", right, "another number");
         let wrong = self.wrong;
-        let what = "each chain's answer, and each of level one, follows from what the sheet tells";
+        let what = "handles, chains' answers and level one's follow from what the sheet tells";
         self.holds(what, wrong == 0, format!("{wrong} scripts"));
         self.kind_coverage();
     }
@@ -209,7 +219,7 @@ impl<'a> Marker<'a> {
     }
 
     /// Before anything is generated: cut records missed each number of bytes, and
-    /// there were chains of each sort, or level-one calls.
+    /// there were protects and chains of each sort, or level-one calls.
     pub fn fixed_coverage(&mut self) {
         self.tell(format!("fixed scripts: {}", self.passed + self.failed));
         self.tell(format!("in fixed scripts, {}", self.missing));
@@ -220,6 +230,7 @@ impl<'a> Marker<'a> {
         }
         let (often, least) = match self.profile {
             Profile::Full => {
+                self.fixed_draws();
                 self.tell(format!("in fixed scripts, {}", self.chains));
                 (self.chains.each_above(CHAINS), CHAINS)
             }
@@ -230,6 +241,15 @@ impl<'a> Marker<'a> {
         };
         let otherwise = format!("not all above {least}");
         self.holds("chains, or level-one calls, of each sort in fixed scripts", often, otherwise);
+    }
+
+    /// Protects passed over draws in each way, one of them over as many as can be.
+    fn fixed_draws(&mut self) {
+        self.tell(format!("in fixed scripts, {}", self.draws));
+        let (often, most) = (self.draws.each_above(DRAWS), self.draws.most());
+        let otherwise = format!("not all above {DRAWS}");
+        self.holds("protects of each sort in fixed scripts", often, otherwise);
+        self.holds("the most draws passed over", most == MOST_PASSED_OVER, format!("{most}"));
     }
 
     /// Tells how many failures were not told.
