@@ -38,9 +38,9 @@ extern "C" {
 #define CAIF_TANKS 8            /* the most tanks of a list */
 #define CAIF_RECORD 65556       /* the longest record: a chain with 65,535 bytes */
 
-/* A draw is below this, 2^48, and a handle is length * 2^48 + draw. Where an escrow row has that handle, the draw after it
- * is tried, and so on until one is free. The draw after d is 25214903917 * d + 11 modulo 2^48, as POSIX defines for
- * drand48. */
+/* A draw is below this, 2^48, and a handle is length * 2^48 + draw. Where an escrow row has that handle, a spent one too,
+ * the draw after it is tried, and so on until one is free. The draw after d is 25214903917 * d + 11 modulo 2^48, as POSIX
+ * defines for drand48. */
 #define CAIF_DRAWS 281474976710656
 
 /* Kinds of calls. After each, the fields of its record, in the record's order. Kinds 2 and 3, start and yield, are
@@ -58,8 +58,10 @@ enum caif_kind {
     CAIF_RETRIEVE = 12,    /* identity (the source), offset, number (the handle); answers the length */
     CAIF_REPORT = 13,      /* none; answers services + 256 * log rows + 65,536 * escrow rows */
     CAIF_HAND_OVER = 14,   /* place: it runs next, and none where it is CAIF_NONE; a refusal leaves what runs */
-    CAIF_CHAIN = 15        /* place (the first way), identity, number (the tag or the handle), bytes (the logged values
+    CAIF_CHAIN = 15,       /* place (the first way), identity, number (the tag or the handle), bytes (the logged values
                             * in order, each after a 2-byte count); answers the count of links */
+    CAIF_RELEASE = 16      /* identity (the source), number (the handle): the running recipient gives the value up. Its
+                            * row stays, spent; later values close up, and the freed bytes serve later protects */
 };
 
 /* Ways of a chain of custody: the first in a chain's place field, the others at the front of the links' values. After
@@ -83,27 +85,27 @@ enum caif_way {
 enum caif_code {
     CAIF_ACCEPTED = 0,
     CAIF_CUT = 1,            /* the record ends before a field does, or is empty; number: the bytes missing */
-    CAIF_UNKNOWN_KIND = 2,   /* bit 0 of the map is down, or the kind is 0, 2, 3 or 16 to 255 */
+    CAIF_UNKNOWN_KIND = 2,   /* bit 0 of the map is down, or the kind is 0, 2, 3 or 17 to 255 */
     CAIF_WRONG_MAP = 3,      /* the map is not the kind's */
-    CAIF_NONE_RUNS = 4,      /* exit, heap write, heap read, attest, protect, retrieve, chain */
+    CAIF_NONE_RUNS = 4,      /* exit, heap write, heap read, attest, protect, retrieve, chain, release */
     CAIF_NO_PLACE = 6,       /* place above 15: create, heap write, heap read; above 16: hand over */
     CAIF_PLACE_STATE = 7,    /* place taken (create), or 0 to 15 and empty (hand over) */
     CAIF_NOT_RUNNING = 8,    /* the place is not the running one: heap write, heap read */
-    CAIF_IDENTITY_ZERO = 9,  /* create, check, protect, retrieve; chain: of any link */
-    CAIF_NO_ROW = 10,        /* no such escrow row: retrieve */
+    CAIF_IDENTITY_ZERO = 9,  /* create, check, protect, retrieve, release; chain: of any link */
+    CAIF_NO_ROW = 10,        /* no such escrow row, or it is spent: retrieve, release */
     CAIF_BEYOND = 11,        /* offset + length (retrieve: the stored length) is beyond 256 (heap) or 1,024 (shared) */
     CAIF_DRAW = 12,          /* draw of 2^48 or more: protect */
     CAIF_LOG_FULL = 13,      /* the pair is not yet logged, and rows or value bytes are lacking: attest */
-    CAIF_ESCROW_FULL = 14,   /* rows or value bytes are lacking: protect */
+    CAIF_ESCROW_FULL = 14,   /* rows, of which spent ones stay used, or value bytes are lacking: protect */
     CAIF_NOT_SOUND = 15,     /* a lent buffer is not of its size, or the box is not sound */
     CAIF_TOO_LONG = 16,      /* a script of more than 65,536 bytes: only the programs boxrun and levelone give it */
     CAIF_NO_ROOM = 17,       /* the writer's buffer is shorter than the record, or its bytes are over 65,535 */
-    CAIF_NO_LINK = 18,       /* the check of a logged link is no, or an escrowed link has no row: chain */
+    CAIF_NO_LINK = 18,       /* the check of a logged link is no, or an escrowed link has no unspent row: chain */
     CAIF_BAD_CHAIN = 19,     /* a way is not 2 or 3, a logged value is cut in the bytes, a value is empty, begins with
                               * another byte than 1 to 3 or has fewer than 16 bytes after a 2 or 3, or bytes are left
                               * over at the end: chain */
     CAIF_LONG_CHAIN = 20,    /* a link more after CAIF_LINKS of them: chain */
-    CAIF_NO_ESCROW = 21,     /* level one: protect, retrieve, chain */
+    CAIF_NO_ESCROW = 21,     /* level one: protect, retrieve, chain, release */
     CAIF_HIGH_PLACE = 22,    /* level one: place above 3 in a create, or in a hand over other than CAIF_NONE */
     CAIF_OTHER_VALUE = 23,   /* level one: the log has a row of this identity with another value, also where it has one with
                               * this value too: attest */
@@ -136,13 +138,15 @@ struct caif_log_row {
     uint16_t length;
 };
 
-/* A row of the escrow: source protected length bytes for recipient, from first on in the escrow's values. 32 bytes. */
+/* A row of the escrow: source protected length bytes for recipient, from first on in the escrow's values. Once recipient
+ * has released them the row is spent: its length is 0, and it keeps its handle and is still counted. 32 bytes. */
 struct caif_escrow_row {
     uint64_t source;
     uint64_t recipient;
     uint64_t handle;
     uint16_t first;
     uint16_t length;
+    uint8_t mark; /* 1 where the row is spent, else 0 */
 };
 
 /* An answer, with the box record as the call leaves it. 176 bytes. */
@@ -200,8 +204,8 @@ struct caif_tank_answer {
 struct caif_box caif_fresh(void);
 
 /* One call: the record that stands at the front of bytes, on the box that is handed in. The log's and the escrow's
- * rows and values, heaps, shared and output are lent; a call adds at most one row. What the output buffer holds
- * beyond the bytes shown is unaltered. */
+ * rows and values, heaps, shared and output are lent; a call adds at most one row, and a release alters its row and
+ * where the later ones begin. What the output buffer holds beyond the bytes shown is unaltered. */
 struct caif_reply caif_call(struct caif_box held,
                             struct caif_log_row *log, size_t log_rows,
                             struct caif_escrow_row *escrow, size_t escrow_rows,

@@ -5,8 +5,8 @@ use std::sync::atomic::{AtomicU64, Ordering};
 use std::time::{Duration, Instant};
 
 use differential::calls::{
-    attest, chain, check, create, hand_over, heap_read, heap_write, protect, record_of, retrieve,
-    shared_read, shared_write,
+    attest, chain, check, create, hand_over, heap_read, heap_write, protect, record_of, release,
+    retrieve, shared_read, shared_write,
 };
 use differential::{counted, draws, link_value};
 use interface::Sides;
@@ -112,6 +112,7 @@ fn add_empty(cases: &mut Vec<Case>) {
     add("check, 64 bytes", &fresh, check(1, 7, &bytes[..64]));
     add("protect, 64 bytes", &running, protect(1, 0, 64, 7));
     add("retrieve, 64 bytes", &escrowed, retrieve(1, 0, 64 * DRAW_LIMIT + 7));
+    add("release, 64 bytes", &escrowed, release(1, 64 * DRAW_LIMIT + 7));
     add("report", &fresh, Call::Report);
     add("hand over, none runs", &created, hand_over(0));
     add("hand over to 16", &running, hand_over(NONE_RUNS));
@@ -144,6 +145,9 @@ fn add_full(cases: &mut Vec<Case>) {
     add("protect, the 64th row, 63 draws passed over", &one_left, 0, protect(1, 64, 64, DRAW));
     add("protect, refused 14", &running, 14, protect(1, 64, 64, DRAW));
     add("retrieve, the last row", &running, 0, retrieve(16, 0, last));
+    // The values of 63 rows close up, 4,032 bytes.
+    add("release, the first of 64 rows", &running, 0, release(16, 64 * DRAW_LIMIT + DRAW));
+    add("release, the last of 64 rows", &running, 0, release(16, last));
     add("report", &running, 0, Call::Report);
     add("hand over, none runs", &stopped, 0, hand_over(15));
     add("hand over to another place", &running, 0, hand_over(7));

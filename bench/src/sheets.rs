@@ -5,18 +5,55 @@ use std::io::{self, ErrorKind};
 use std::process::{Command, Stdio};
 use std::time::{Duration, Instant};
 
-use differential::calls::record_of;
+use differential::calls::{create, hand_over, heap_write, protect, record_of, release, retrieve};
 use differential::play::long_script;
-use second::{Call, SCRIPT_MAX};
+use second::{Call, DRAW_LIMIT, HEADER, ROWS, SCRIPT_MAX};
 
 use crate::table;
 
-/// Two scripts of 65,536 bytes: one of the shortest records, one of any.
+/// Three scripts of up to 65,536 bytes: one of the shortest records, one of any, one whose
+/// escrow would be full without its releases.
 pub fn time(rounds: usize, boxrun: &str, second: &str, path: &str) -> io::Result<()> {
     let reports = record_of(&Call::Report).repeat(SCRIPT_MAX / 2);
     time_script("sheet of 32,768 reports", rounds, [boxrun, second], path, &reports)?;
     let played = long_script(2, SCRIPT_MAX);
-    time_script("sheet of 65,536 bytes of calls", rounds, [boxrun, second], path, &played)
+    time_script("sheet of 65,536 bytes of calls", rounds, [boxrun, second], path, &played)?;
+    let name = "sheet of 64 protects of 256 bytes, 48 releases and retrieves";
+    time_script(name, rounds, [boxrun, second], path, &released())
+}
+
+/// The values that fill the escrow's bytes.
+const LIVE: usize = 16;
+
+/// As many values of 256 bytes as there are rows, each of which is released before there
+/// is no room for another. Retrieves of those that are there fill the script. All calls
+/// are accepted.
+fn released() -> Vec<u8> {
+    let mut script = [record_of(&create(0, 1)), record_of(&hand_over(0))].concat();
+    let handle = |n: usize| 256 * DRAW_LIMIT + n as u64;
+    for n in 0..ROWS {
+        script.extend(record_of(&heap_write(0, 0, &[n as u8; 256])));
+        if n >= LIVE {
+            script.extend(record_of(&release(1, handle(n - LIVE))));
+        }
+        script.extend(record_of(&protect(1, 0, 256, n as u64)));
+        let oldest = (n + 1).saturating_sub(LIVE);
+        let there = (oldest..=n).map(|n| record_of(&retrieve(1, 0, handle(n))));
+        for record in there.collect::<Vec<_>>().iter().cycle() {
+            if script.len() + record.len() > SCRIPT_MAX * (n + 1) / ROWS {
+                break;
+            }
+            script.extend(record);
+        }
+    }
+    let sheet = second::sheet(&script);
+    assert!(sheet[HEADER.len()..].split_inclusive(|&byte| byte == b'\n').all(is_accepted));
+    script
+}
+
+/// A line of a sheet with code 0.
+fn is_accepted(line: &[u8]) -> bool {
+    line.starts_with(b"0 ")
 }
 
 fn time_script(

@@ -125,6 +125,24 @@ static void same_draw(uint16_t length, uint64_t draw)
     check(full.code == CAIF_ESCROW_FULL, "a full box", draw, full.code, CAIF_ESCROW_FULL);
 }
 
+/* The same with each value released before the next: a spent row's draw is passed over as one in use, and the rows run out
+ * though no byte is used. */
+static void released_draw(uint16_t length, uint64_t draw)
+{
+    uint64_t wanted = draw;
+    begin();
+    for (unsigned n = 0; n < CAIF_ESCROW_ROWS; n++) {
+        protects(1, length, draw, wanted, "a released draw again");
+        struct caif_reply reply =
+            call(CAIF_RELEASE, (struct caif_fields){.identity = 1, .number = length * CAIF_DRAWS + wanted});
+        check(reply.code == 0, "a release", draw, reply.code, 0);
+        wanted = next(wanted);
+    }
+    check(held.escrow.bytes == 0, "no byte is used", draw, held.escrow.bytes, 0);
+    struct caif_reply full = call(CAIF_PROTECT, (struct caif_fields){.identity = 1, .length = length, .number = draw});
+    check(full.code == CAIF_ESCROW_FULL, "a box of spent rows", draw, full.code, CAIF_ESCROW_FULL);
+}
+
 /* Of the first 62 draws one is left free, though it is in use under another length; the others are given, every fifth
  * after the other, by two programs for three. The free one is not passed over. Once it is given too, the next is the
  * 63rd, from wherever in the sequence one begins. */
@@ -150,8 +168,10 @@ static const uint16_t lengths[5] = {0, 1, 5, 64, 256};
 /* With every length, and with every sixth draw left free. */
 static void try_wholly(uint64_t draw)
 {
-    for (unsigned n = 0; n < 5; n++)
+    for (unsigned n = 0; n < 5; n++) {
         same_draw(lengths[n], draw);
+        released_draw(lengths[n], draw);
+    }
     for (unsigned left = 0; left < 62; left += 6)
         one_left_free(draw, left, left * left % 62);
 }

@@ -1,4 +1,4 @@
-/* The example paper, then every other kind of call, then hand overs of each sort, then chains. */
+/* The example paper, then every other kind of call, then hand overs of each sort, then chains, then releases. */
 #include "host.h"
 
 #define HANDLE 281474976710663u      /* of length 1 and draw 7 */
@@ -6,6 +6,7 @@
 #define END_TAG 8750169272185725317u /* FNV-1a of 03 00 00 00 00 00 00 00 01 */
 #define LINK 4785074604081161u       /* of length 17 and draw 9 */
 #define OWN 4785074604081162u        /* of length 17 and draw 10 */
+#define AFTER_LINK 4785301538216416u /* of length 17 and the draw after 9, which is 226,934,135,264 */
 
 /* The same as bytes, lowest first. */
 #define ID_0 0, 0, 0, 0, 0, 0, 0, 0
@@ -13,6 +14,7 @@
 #define END_TAG_BYTES 0x85, 0x21, 0x2B, 0xB9, 0x97, 0xD8, 0x6E, 0x79
 #define LINK_BYTES 9, 0, 0, 0, 0, 0, 0x11, 0
 #define OWN_BYTES 10, 0, 0, 0, 0, 0, 0x11, 0
+#define AFTER_LINK_BYTES 0xE0, 0x19, 0x54, 0xD6, 0x34, 0, 0x11, 0
 
 /* The first names the end that identity 3 logged, the second its own handle. */
 static const uint8_t link_value[17] = {2, ID_3, END_TAG_BYTES};
@@ -161,6 +163,45 @@ static void own_protected(struct host *host)
     memcpy(host->escrow_values + 18, own_value, sizeof own_value);
 }
 
+static void link_released(struct host *host)
+{
+    host->held.escrow = (struct caif_used){.rows = 3, .bytes = 18};
+    host->escrow[1].length = 0;
+    host->escrow[1].mark = 1;
+    host->escrow[2].first = 1;
+    memcpy(host->escrow_values + 1, own_value, sizeof own_value);
+    memset(host->escrow_values + 18, 0, 17);
+}
+
+static void own_retrieved(struct host *host)
+{
+    memcpy(host->heaps + 612, own_value, sizeof own_value);
+}
+
+static void own_released(struct host *host)
+{
+    host->held.escrow = (struct caif_used){.rows = 3, .bytes = 1};
+    host->escrow[2].length = 0;
+    host->escrow[2].mark = 1;
+    memset(host->escrow_values + 1, 0, 17);
+}
+
+static void protected_again(struct host *host)
+{
+    host->held.escrow = (struct caif_used){.rows = 4, .bytes = 18};
+    host->escrow[3] =
+        (struct caif_escrow_row){.source = 3, .recipient = 4, .handle = AFTER_LINK, .first = 1, .length = 17};
+    memcpy(host->escrow_values + 1, own_value, sizeof own_value);
+}
+
+static void others_released(struct host *host)
+{
+    host->held.escrow = (struct caif_used){.rows = 4, .bytes = 1};
+    host->escrow[3].length = 0;
+    host->escrow[3].mark = 1;
+    memset(host->escrow_values + 1, 0, 17);
+}
+
 /* A call: how it is written, its record, its answer, and what it alters. All of the record is used. */
 struct step {
     uint8_t kind;
@@ -279,6 +320,40 @@ static const struct step chains[] = {
     {CAIF_HAND_OVER, FIELDS(.place = CAIF_NONE), RECORD(0x03, 0x0E, 0x10), .alters = yielded},
 };
 
+/* After the chains: identity 3 gives up its first value, between another's and its second, which moves down; then that one,
+ * behind it; then identity 4 what 3 protects for it. The spent rows stay, and their handles are not given again. */
+static const struct step releases[] = {
+    {CAIF_RELEASE, FIELDS(.identity = 3, .number = LINK), RECORD(0x25, 0x10, ID_3, LINK_BYTES), .code = CAIF_NONE_RUNS,
+     .alters = nothing},
+    {CAIF_HAND_OVER, FIELDS(.place = 15), RECORD(0x03, 0x0E, 0x0F), .alters = started_15},
+    {CAIF_RELEASE, FIELDS(.identity = 3, .number = LINK), RECORD(0x25, 0x10, ID_3, LINK_BYTES), .code = CAIF_NO_ROW,
+     .alters = nothing},
+    {CAIF_HAND_OVER, FIELDS(.place = 2), RECORD(0x03, 0x0E, 2), .alters = started_2},
+    {CAIF_RELEASE, FIELDS(.number = LINK), RECORD(0x25, 0x10, ID_0, LINK_BYTES), .code = CAIF_IDENTITY_ZERO,
+     .alters = nothing},
+    {CAIF_RELEASE, FIELDS(.identity = 1, .number = HANDLE),
+     RECORD(0x25, 0x10, 1, 0, 0, 0, 0, 0, 0, 0, 7, 0, 0, 0, 0, 0, 1, 0), .code = CAIF_NO_ROW, .alters = nothing},
+    {CAIF_RELEASE, FIELDS(.identity = 3, .number = LINK), RECORD(0x25, 0x10, ID_3, LINK_BYTES), .alters = link_released},
+    {CAIF_RELEASE, FIELDS(.identity = 3, .number = LINK), RECORD(0x25, 0x10, ID_3, LINK_BYTES), .code = CAIF_NO_ROW,
+     .alters = nothing},
+    {CAIF_RETRIEVE, FIELDS(.identity = 3, .number = LINK), RECORD(0x2D, 0x0C, ID_3, 0, 0, LINK_BYTES),
+     .code = CAIF_NO_ROW, .alters = nothing},
+    {CAIF_CHAIN, FIELDS(.place = CAIF_WAY_ESCROWED, .identity = 3, .number = LINK), BYTES(1, 0, 1),
+     RECORD(0x67, 0x0F, 3, ID_3, LINK_BYTES, 3, 0, 1, 0, 1), .code = CAIF_NO_LINK, .alters = nothing},
+    {CAIF_RETRIEVE, FIELDS(.identity = 3, .offset = 100, .number = OWN), RECORD(0x2D, 0x0C, ID_3, 100, 0, OWN_BYTES),
+     .number = 17, .alters = own_retrieved},
+    {CAIF_RELEASE, FIELDS(.identity = 3, .number = OWN), RECORD(0x25, 0x10, ID_3, OWN_BYTES), .alters = own_released},
+    {CAIF_PROTECT, FIELDS(.identity = 4, .length = 17, .number = 9),
+     RECORD(0x3D, 0x0B, 4, 0, 0, 0, 0, 0, 0, 0, 0, 0, 0x11, 0, 9, 0, 0, 0, 0, 0, 0, 0), .number = AFTER_LINK,
+     .alters = protected_again},
+    {CAIF_RELEASE, FIELDS(.identity = 3, .number = AFTER_LINK), RECORD(0x25, 0x10, ID_3, AFTER_LINK_BYTES),
+     .code = CAIF_NO_ROW, .alters = nothing},
+    {CAIF_HAND_OVER, FIELDS(.place = 15), RECORD(0x03, 0x0E, 0x0F), .alters = started_15},
+    {CAIF_RELEASE, FIELDS(.identity = 3, .number = AFTER_LINK), RECORD(0x25, 0x10, ID_3, AFTER_LINK_BYTES),
+     .alters = others_released},
+    {CAIF_REPORT, FIELDS(.place = 0), RECORD(0x01, 0x0D), .number = 262658, .alters = nothing},
+};
+
 #define COUNT(table) (sizeof(table) / sizeof *(table))
 
 /* The writer gives the record and alters nothing behind it. */
@@ -358,4 +433,5 @@ void check_calls(void)
     check_steps(&host, other_kinds, COUNT(other_kinds), "other kinds");
     check_steps(&host, hand_overs, COUNT(hand_overs), "hand overs");
     check_steps(&host, chains, COUNT(chains), "chains");
+    check_steps(&host, releases, COUNT(releases), "releases");
 }

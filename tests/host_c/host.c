@@ -77,7 +77,7 @@ static bool same_escrow(const struct host *a, const struct host *b)
     for (int n = 0; n <= CAIF_ESCROW_ROWS; n++) {
         const struct caif_escrow_row *x = &a->escrow[n], *y = &b->escrow[n];
         if (x->source != y->source || x->recipient != y->recipient || x->handle != y->handle ||
-            x->first != y->first || x->length != y->length)
+            x->first != y->first || x->length != y->length || x->mark != y->mark)
             return false;
     }
     return true;

@@ -32,6 +32,7 @@ static void check_rows(void)
     FIELD(caif_escrow_row, handle, 16);
     FIELD(caif_escrow_row, first, 24);
     FIELD(caif_escrow_row, length, 26);
+    FIELD(caif_escrow_row, mark, 28);
 }
 
 static void check_answers(void)
@@ -100,6 +101,7 @@ static int is_kind(enum caif_kind kind)
     case CAIF_REPORT:
     case CAIF_HAND_OVER:
     case CAIF_CHAIN:
+    case CAIF_RELEASE:
         return 1;
     }
     return 0;
@@ -149,7 +151,8 @@ static void check_kinds(void)
     check(CAIF_SHARED_WRITE == 7 && CAIF_SHARED_READ == 8, "kinds", "shared memory");
     check(CAIF_ATTEST == 9 && CAIF_CHECK == 10, "kinds", "the log");
     check(CAIF_PROTECT == 11 && CAIF_RETRIEVE == 12 && CAIF_REPORT == 13, "kinds", "the escrow and the report");
-    check(CAIF_CHAIN == 15 && !is_kind((enum caif_kind)16), "kinds", "a chain, the last");
+    check(CAIF_CHAIN == 15 && CAIF_RELEASE == 16, "kinds", "a chain and a release");
+    check(!is_kind((enum caif_kind)17), "kinds", "16 is the last");
 }
 
 /* The first byte of a link value. A chain's place field is the second or the third. */

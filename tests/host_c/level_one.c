@@ -150,6 +150,18 @@ static void takes_15(struct host *host) { takes(host, 15, 4); }
 static void escrows_a(struct host *host) { escrows(host, 1, HANDLE_9, (const uint8_t *)"A", 1); }
 static void retrieves(struct host *host) { host->heaps[4] = 1; }
 static void logs_a(struct host *host) { logs(host, 1, "A", 1); }
+
+/* The first of the two values is released, and the second moves down. */
+static void releases(struct host *host)
+{
+    host->escrow[0].length = 0;
+    host->escrow[0].mark = 1;
+    host->escrow[1].first = 0;
+    memmove(host->escrow_values, host->escrow_values + 1, 17);
+    host->escrow_values[17] = 0;
+    host->held.escrow.bytes = 17;
+}
+
 static void logs_b(struct host *host) { logs(host, 1, "B", 1); }
 static void logs_ab(struct host *host) { logs(host, 1, "AB", 2); }
 static void logs_none(struct host *host) { logs(host, 1, "", 0); }
@@ -181,6 +193,7 @@ static void exits_5(struct host *host)
 #define PROTECT(identity, offset, length, ...) \
     RECORD(0x3D, 0x0B, ID(identity), SHORT(offset), SHORT(length), __VA_ARGS__)
 #define RETRIEVE(identity, offset, ...) RECORD(0x2D, 0x0C, ID(identity), SHORT(offset), __VA_ARGS__)
+#define RELEASE(identity, ...) RECORD(0x25, 0x10, ID(identity), __VA_ARGS__)
 #define CREATE(place, identity) RECORD(0x07, 0x01, (place), ID(identity))
 #define HAND_OVER(place) RECORD(0x03, 0x0E, (place))
 #define ATTEST(offset, length) RECORD(0x19, 0x09, SHORT(offset), SHORT(length))
@@ -197,6 +210,8 @@ static const struct step escrow_while_none_runs[] = {
     {"retrieve from identity 0", RETRIEVE(0, 0, HANDLE_7_BYTES), CODES(CAIF_NO_ESCROW, CAIF_NONE_RUNS)},
     {"chain", RECORD(0x67, 0x0F, 3, ID(2), HANDLE_7_BYTES, SHORT(0)), CODES(CAIF_NO_ESCROW, CAIF_NONE_RUNS)},
     {"chain by no way", RECORD(0x67, 0x0F, 0, ID(0), ID(0), SHORT(0)), CODES(CAIF_NO_ESCROW, CAIF_NONE_RUNS)},
+    {"release", RELEASE(2, HANDLE_7_BYTES), CODES(CAIF_NO_ESCROW, CAIF_NONE_RUNS)},
+    {"release from identity 0", RELEASE(0, HANDLE_7_BYTES), CODES(CAIF_NO_ESCROW, CAIF_NONE_RUNS)},
     {"exit", EXIT, CODES(CAIF_NONE_RUNS, CAIF_NONE_RUNS)},
     {"attest", ATTEST(0, 1), CODES(CAIF_NONE_RUNS, CAIF_NONE_RUNS)},
     {"report", REPORT, CODES(CAIF_ACCEPTED, CAIF_ACCEPTED), .number = 3 + 65536 * 2},
@@ -227,6 +242,20 @@ static const struct step escrow_while_one_runs[] = {
      CODES(CAIF_NO_ESCROW, CAIF_LONG_CHAIN)},
     {"chain of a logged link", RECORD(0x67, 0x0F, 2, ID(1), TAG_1_A_BYTES, SHORT(3), 1, 0, 0x41),
      CODES(CAIF_NO_ESCROW, CAIF_NO_LINK)},
+    {"release", RELEASE(2, HANDLE_7_BYTES), CODES(CAIF_NO_ESCROW, CAIF_ACCEPTED), .alters = releases},
+    {"release from identity 0", RELEASE(0, HANDLE_7_BYTES), CODES(CAIF_NO_ESCROW, CAIF_IDENTITY_ZERO)},
+    {"release of no row", RELEASE(2, HANDLE_8_BYTES), CODES(CAIF_NO_ESCROW, CAIF_NO_ROW)},
+};
+
+/* The first of the two values was released. */
+static const struct step spent_row[] = {
+    {"release of a spent row", RELEASE(2, HANDLE_7_BYTES), CODES(CAIF_NO_ESCROW, CAIF_NO_ROW)},
+    {"retrieve of a spent row", RETRIEVE(2, 4, HANDLE_7_BYTES), CODES(CAIF_NO_ESCROW, CAIF_NO_ROW)},
+    {"chain of a spent row", RECORD(0x67, 0x0F, 3, ID(2), HANDLE_7_BYTES, SHORT(0)),
+     CODES(CAIF_NO_ESCROW, CAIF_NO_LINK)},
+    {"chain beside a spent row", RECORD(0x67, 0x0F, 3, ID(2), HANDLE_10_BYTES, SHORT(0)),
+     CODES(CAIF_NO_ESCROW, CAIF_LONG_CHAIN)},
+    {"report of a spent row", REPORT, CODES(CAIF_ACCEPTED, CAIF_ACCEPTED), .number = 3 + 65536 * 2},
 };
 
 /* The kinds that have no number of level one's. */
@@ -274,6 +303,10 @@ static void check_escrow(void)
     check_steps(&host, escrow_while_none_runs, COUNT(escrow_while_none_runs));
     check_steps(&host, escrow_while_one_runs, COUNT(escrow_while_one_runs));
     check_steps(&host, other_kinds, COUNT(other_kinds));
+    make_escrow(&host);
+    runs_0(&host);
+    releases(&host);
+    check_steps(&host, spent_row, COUNT(spent_row));
     make_services(&host);
     runs_0(&host);
     for (uint64_t draw = 0; draw < CAIF_ESCROW_ROWS; draw++)
@@ -511,6 +544,7 @@ static const struct step own_numbers[] = {
     {"protect", PROTECT(2, 0, 1, ID(9)), CODES(CAIF_NO_ESCROW, CAIF_ACCEPTED)},
     {"retrieve", RETRIEVE(2, 4, HANDLE_7_BYTES), CODES(CAIF_NO_ESCROW, CAIF_ACCEPTED)},
     {"chain", RECORD(0x67, 0x0F, 3, ID(2), HANDLE_7_BYTES, SHORT(0)), CODES(CAIF_NO_ESCROW, CAIF_ACCEPTED)},
+    {"release", RELEASE(2, HANDLE_7_BYTES), CODES(CAIF_NO_ESCROW, CAIF_ACCEPTED)},
     {"create at 4", CREATE(4, 4), CODES(CAIF_HIGH_PLACE, CAIF_ACCEPTED)},
     {"hand over to 5", HAND_OVER(5), CODES(CAIF_HIGH_PLACE, CAIF_ACCEPTED)},
     {"attest", ATTEST(2, 1), CODES(CAIF_OTHER_VALUE, CAIF_ACCEPTED)},
@@ -546,6 +580,13 @@ static void check_sizes_and_soundness(void)
     host.log[0].tag++;
     check_not_sound(&host, &right_sizes, "another tag");
     host = sound;
+    host.escrow[1].mark = 1;
+    check_not_sound(&host, &right_sizes, "a value's row is marked spent");
+    host = sound;
+    releases(&host);
+    host.escrow[0].mark = 2;
+    check_not_sound(&host, &right_sizes, "a mark of 2");
+    host = sound;
     host.escrow_values[4095] = 1;
     check_not_sound(&host, &right_sizes, "an unused value byte");
     for (size_t n = 0; n < COUNT(own_numbers); n++) {
@@ -563,6 +604,7 @@ static void check_reader(void)
         {1, 1, 8, 7, 6, 5, 4, 3, 2, 1, 2, 1, 2, 1, 8, 7, 6, 5, 4, 3, 2, 1},
         {1, 1, 8, 7, 6, 5, 4, 3, 2, 1, 2, 1, 8, 7, 6, 5, 4, 3, 2, 1},
         {1, 1, 1, 8, 7, 6, 5, 4, 3, 2, 1, 8, 7, 6, 5, 4, 3, 2, 1, 2, 1},
+        {1, 1, 8, 7, 6, 5, 4, 3, 2, 1, 8, 7, 6, 5, 4, 3, 2, 1},
         {1, 1, 1, 8, 7, 6, 5, 4, 3, 2, 1},
         {1, 1, 1},
         {1, 1, 2, 1, 2, 1},
@@ -579,8 +621,8 @@ static void check_reader(void)
         record[0] ^= 0x81;
         refused(&host, &right_sizes, record, own_numbers[n].length, CAIF_UNKNOWN_KIND, 0, "bit 0 down");
         record[0] ^= 0x01;
-        record[1] = 16;
-        refused(&host, &right_sizes, record, own_numbers[n].length, CAIF_UNKNOWN_KIND, 0, "kind 16");
+        record[1] = 17;
+        refused(&host, &right_sizes, record, own_numbers[n].length, CAIF_UNKNOWN_KIND, 0, "kind 17");
         record[1] = 2;
         refused(&host, &right_sizes, record, own_numbers[n].length, CAIF_UNKNOWN_KIND, 0, "kind 2, retired");
     }

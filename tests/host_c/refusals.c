@@ -62,6 +62,14 @@ static void check_damaged(void)
     run_example(&host);
     host.escrow[0].handle += CAIF_DRAWS;
     refused(&host, &right_sizes, report, sizeof report, CAIF_NOT_SOUND, 0, "a handle of another length");
+    for (unsigned mark = 1; mark < 256; mark++) {
+        run_example(&host);
+        host.escrow[0].mark = mark;
+        refused(&host, &right_sizes, report, sizeof report, CAIF_NOT_SOUND, 0, "a value's row with a mark");
+        run_example(&host);
+        host.escrow[1].mark = mark;
+        refused(&host, &right_sizes, report, sizeof report, CAIF_NOT_SOUND, 0, "an unused row with a mark");
+    }
     run_example(&host);
     host.log_values[4095] = 1;
     refused(&host, &right_sizes, report, 0, CAIF_NOT_SOUND, 0, "an unused value byte");
@@ -77,18 +85,21 @@ static void check_records(void)
     static struct host host;
     run_example(&host);
     REFUSED(CAIF_UNKNOWN_KIND, 0, "no kind", 0x02);
-    REFUSED(CAIF_UNKNOWN_KIND, 0, "kind 16", 0x01, 0x10);
-    REFUSED(CAIF_UNKNOWN_KIND, 0, "kind 16 with a chain's map", 0x67, 0x10, 2);
+    REFUSED(CAIF_UNKNOWN_KIND, 0, "kind 17", 0x01, 0x11);
+    REFUSED(CAIF_UNKNOWN_KIND, 0, "kind 17 with a release's map", 0x25, 0x11, 2);
     REFUSED(CAIF_UNKNOWN_KIND, 0, "kind 2, retired", 0x03, 0x02, 0);
     REFUSED(CAIF_UNKNOWN_KIND, 0, "kind 2, retired, cut", 0x03, 0x02);
     REFUSED(CAIF_UNKNOWN_KIND, 0, "kind 3, retired", 0x01, 0x03);
     REFUSED(CAIF_WRONG_MAP, 0, "another map", 0x03, 0x0D, 0);
     REFUSED(CAIF_WRONG_MAP, 0, "hand over with another map", 0x01, 0x0E);
     REFUSED(CAIF_WRONG_MAP, 0, "chain with check's map", 0x65, 0x0F, 2);
+    REFUSED(CAIF_WRONG_MAP, 0, "release with a chain's map", 0x67, 0x10, 2);
+    REFUSED(CAIF_WRONG_MAP, 0, "release with retrieve's map", 0x2D, 0x10);
     REFUSED(CAIF_WRONG_MAP, 0, "a cut record with another map", 0x4B, 0x07, 0);
     REFUSED(CAIF_UNKNOWN_KIND, 0, "a cut record of kind 0", 0x07, 0);
     REFUSED(CAIF_NONE_RUNS, 2, "exit while none runs", 0x01, 0x04, 0xFF);
     REFUSED(CAIF_NONE_RUNS, 21, "chain while none runs", 0x67, 0x0F, 0, ZEROS, ZEROS, 0, 0, 0xFF);
+    REFUSED(CAIF_NONE_RUNS, 18, "release while none runs", 0x25, 0x10, ZEROS, ZEROS, 0xFF);
     REFUSED(CAIF_NO_PLACE, 3, "hand over to 17", 0x03, 0x0E, 17);
     REFUSED(CAIF_PLACE_STATE, 3, "hand over to an empty place", 0x03, 0x0E, 1);
 }
@@ -121,6 +132,7 @@ static const struct cuts cuts[] = {
     {"chain",
      CUT_RECORD(0x67, 0x0F, 2, 1, 0, 0, 0, 0, 0, 0, 0, 0x1F, 0xA2, 0xF5, 0x8F, 0xDC, 0x6D, 0x9A, 0x52, 3, 0, 1, 0, 1),
      MISSING(1, 1, 1, EIGHT, EIGHT, 2, 1, 3, 2, 1)},
+    {"release", CUT_RECORD(0x25, 0x10, 1, 0, 0, 0, 0, 0, 0, 0, 7, 0, 0, 0, 0, 0, 1, 0), MISSING(1, 1, EIGHT, EIGHT)},
 };
 
 /* Every field of these cut at every byte, the empty record and the map alone among them. */
@@ -198,7 +210,8 @@ static void check_writer(void)
     not_written(0, 0, 64, CAIF_UNKNOWN_KIND, "kind 0");
     not_written(2, 0, 64, CAIF_UNKNOWN_KIND, "kind 2, retired");
     not_written(3, 0, 0, CAIF_UNKNOWN_KIND, "kind 3, retired, in no bytes");
-    not_written(16, 0, 0, CAIF_UNKNOWN_KIND, "kind 16 in no bytes");
+    not_written(17, 0, 0, CAIF_UNKNOWN_KIND, "kind 17 in no bytes");
+    not_written(CAIF_RELEASE, 0, 17, CAIF_NO_ROOM, "a release in 17 bytes");
     not_written(CAIF_CHAIN, 0, 20, CAIF_NO_ROOM, "a chain in 20 bytes");
     not_written(CAIF_CHAIN, 65536, 70000, CAIF_NO_ROOM, "a chain with 65,536 bytes");
 }

@@ -8,9 +8,10 @@ use native.Mathlib.Nat.{zero-add, add-sub-cancel-left}
 use native.Mathlib.Numerals.{add-one}
 use lib.Bits.{bitOr, or-add-and, or-zero-l, and-le-r}
 use lib.Dec.{eqb}
-use lib.ListN.{length, getD, take, drop, set, drop-of-length-le, length-drop, take-append-drop}
-use lib.Seq.{drop-cons, take-all, paste-suc, sets, sets-eq, drop-drop}
+use lib.ListN.{length, getD, take, drop, replicate, set, length-append, drop-of-length-le, length-drop, take-append-drop}
+use lib.Seq.{drop-cons, take-all, take-at, drop-at, length-take-le, paste-suc, sets, sets-eq, drop-drop, getD-append-add, getD-drop}
 use borrow.Author.Tests.{ne-eqb}
+use borrow.Rule.Slice.PartMut.{putMid, midOf}
 use Rattle.lists.specs.Lists.{every, sameBytes, allZero}
 use Rattle.lists.proofs.Bools.{and-false}
 use Rattle.lists.proofs.Lists.{every-append}
@@ -60,6 +61,36 @@ pub copy-more : (s d : List ℕ) (i : ℕ) → i < length s → i < length d
 copy-more s d i h l =
     let m : 0 + i < length d = omega arith in
     rw (add-one i) (rw (zero-add i, zero-add (suc i)) at (paste-suc d 0 s i 0 m h))
+
+-- ---- bytes moved down by n, one by one
+
+-- what is read is not yet written over
+pub read-ahead : (d : List ℕ) (n i : ℕ) → i + n < length d → getD (take i (drop n d) ++ drop i d) (i + n) 0 ≡ getD (drop n d) i 0
+read-ahead d n i h =
+    let front = take i (drop n d) in
+    let e : length front ≡ i = length-take-le i (drop n d) (simp length-drop (omega arith)) in
+    let m : n + i ≡ i + n = omega arith in
+    ap (λ k. getD (front ++ drop i d) (k + n) 0) (sym e) ∙ getD-append-add front (drop i d) n 0 ∙ getD-drop i d n 0
+    ∙ sym (getD-drop n d i 0 ∙ ap (λ k. getD d k 0) m)
+
+-- the last n bytes cleared
+pub tail-cleared : (d l x : List ℕ) (n : ℕ) → n ≤ length d → l ≡ drop n d ++ drop (length d - n) d
+    → let a = length l - n in
+    x ≡ replicate (length (midOf a (length l - a) l)) 0 → putMid a (length l - a) l x ≡ drop n d ++ replicate n 0
+tail-cleared d l x n h e f =
+    let m = length d - n in
+    let front : length (drop n d) ≡ m = length-drop n d in
+    let back : length (drop m d) ≡ n = simp length-drop (omega arith) in
+    let whole : length l ≡ length d = ap length e ∙ length-append (drop n d) (drop m d) ∙ omega arith in
+    let a : length l - n ≡ m = omega arith in
+    let b : length l - (length l - n) ≡ n = omega arith in
+    let rest : drop m l ≡ drop m d = ap (drop m) e ∙ drop-at (drop n d) (drop m d) m front in
+    let start : take m l ≡ drop n d = ap (take m) e ∙ take-at (drop n d) (drop m d) m front in
+    let all : take n (drop m d) ≡ drop m d = take-all n (drop m d) (omega arith) in
+    let over : length (drop m d) ≤ n = omega arith in
+    let none : drop n (drop m d) ≡ [] = drop-of-length-le (drop m d) over in
+    let g : x ≡ replicate n 0 = f ∙ rw (b, a, rest, all, back) in
+    rw (b, a, start, rest, none, g, append-nil {A = ℕ} (replicate n 0))
 
 -- ---- a part of l, lent and back
 

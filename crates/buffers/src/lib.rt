@@ -1,6 +1,6 @@
-// Lent bytes: whether they are 0, or the same; copied, put, shown and cleared; and whether a range goes beyond a limit.
+// Lent bytes: whether they are 0, or the same; copied, put, shown, cleared and taken out; and whether a range goes beyond a limit.
 ghost use mathlib.Core.Path.{_≡_};
-ghost use Prim.Native.Nat.{_+_, _≤_};
+ghost use Prim.Native.Nat.{_+_, _-_, _≤_};
 ghost use lib.Dec.{ltb};
 ghost use lib.ListN.{length, replicate, take, drop};
 ghost use lib.Seq.{sets};
@@ -100,4 +100,27 @@ pub fn clear(dst: &mut [u8])
         dst[i] = 0;
         i += 1;
     }
+}
+
+// The bytes from n on over the front of dst; the last n stay as they were.
+fn move_down(dst: &mut [u8], n: usize)
+    requires { ⌜ n ≤ length (now dst) ⌝ }
+    ensures { λ _. ⌜ now (dst .exit) ≡ drop n (now (dst .entry)) ++ drop (length (now (dst .entry)) - n) (now (dst .entry)) ⌝ }
+{
+    let count = dst.len() - n;
+    let mut i = 0;
+    while i < count {
+        dst[i] = dst[i + n];
+        i += 1;
+    }
+}
+
+// The first n bytes taken out of dst: what follows them closes up, with zeros behind.
+pub fn take_out(dst: &mut [u8], n: usize)
+    requires { ⌜ n ≤ length (now dst) ⌝ }
+    ensures { λ _. ⌜ now (dst .exit) ≡ drop n (now (dst .entry)) ++ replicate n 0 ⌝ }
+{
+    move_down(dst, n);
+    let end = dst.len() - n;
+    clear(&mut dst[end..]);
 }

@@ -19,6 +19,7 @@ use Rattle.state.specs.declared.EscrowTable.{EscrowTable}
 use Rattle.state.specs.declared.Change.{Change}
 use Rattle.state.specs.Answers.{refusedWith}
 use Rattle.state.specs.Edits.{logEdited, escrowEdited, Fits, EditsBy}
+use Rattle.state.proofs.Edited.{escrow-fits}
 use Rattle.calls.specs.Entry.{resultOf, readyOn, entryOn}
 use Rattle.calls.proofs.Whole.{refused-entry, ready-sound}
 use Rattle.caif.specs.declared.LentReply.{LentReply}
@@ -44,7 +45,7 @@ pub record Settles (c : Change) (logRows : List LogRow) (escrowRows : List Escro
 pub settles : (p : Profile) (b : BoxRecord) (log : LogTable) (escrow : EscrowTable) (heaps shared lv ev output bytes : List ℕ) (c : Change)
     {heaps′ shared′ lv′ ev′ output′ : List ℕ} {logRows : List LogRow} {escrowRows : List EscrowRow}
     → log .rows ≡ logRows → escrow .rows ≡ escrowRows → length logRows ≡ 64 → length escrowRows ≡ 64
-    → CalledResult p b log escrow heaps shared lv ev output bytes c heaps′ shared′ lv′ ev′ output′ × EditsBy b (c .held) (c .edits)
+    → CalledResult p b log escrow heaps shared lv ev output bytes c heaps′ shared′ lv′ ev′ output′ × EditsBy b (escrow .rows) (c .held) (c .edits)
     → Settles c logRows escrowRows
     (lentResult (replyOf c) (logEdited (c .edits .log) logRows) (escrowEdited (c .edits .escrow) escrowRows) heaps′ shared′ lv′ ev′ output′
     ≡ entryOn (boxOf p) (lentTables b logRows escrowRows heaps shared lv ev) bytes output)
@@ -52,7 +53,7 @@ settles p b log escrow heaps shared lv ev output bytes c el ee nl ne said =
     record {
       answers = rw (← el, ← ee) (said .0);
       logFits = rw nl (said .1 .log .fits);
-      escrowFits = rw ne (said .1 .escrow .fits);
+      escrowFits = rw ne (escrow-fits (said .1 .escrow));
     }
 
 -- ---- the counts

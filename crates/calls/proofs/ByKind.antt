@@ -3,7 +3,7 @@ use Prim.Native.Nat.{ℕ, zero, suc}
 use mathlib.Core.Path.{_≡_, refl, sym, ap, _∙_}
 use mathlib.Core.List.{List, []}
 use Rattle.record.specs.declared.Call as code
-use Rattle.record.specs.declared.Call.the-variants.{Create, Exit, HeapWrite, HeapRead, SharedWrite, SharedRead, Attest, Check, Protect, Retrieve, Report, HandOver, Chain}
+use Rattle.record.specs.declared.Call.the-variants.{Create, Exit, HeapWrite, HeapRead, SharedWrite, SharedRead, Attest, Check, Protect, Retrieve, Report, HandOver, Chain, Release}
 use Rattle.record.specs.Call.{Call}
 use Rattle.record.specs.Meaning.{bytesIn, wayIn, numberIn, callIn}
 use Rattle.ideal.specs.Step.{stepBy}
@@ -32,6 +32,8 @@ use Rattle.escrow.proofs.Bridge.{protect-step, protect-alone}
 use Rattle.retrieval.specs.Narrow.{retrieveAnswer, retrieveHeaps}
 use Rattle.retrieval.proofs.Bridge.{retrieve-step}
 use Rattle.chain.specs.Narrow.{chainAnswer}
+use Rattle.release.specs.Narrow.{releaseOn}
+use Rattle.release.proofs.Bridge.{release-step, release-alone}
 use Rattle.chain.proofs.Bridge.{chain-step}
 use Rattle.calls.specs.Entry.{EntryResult, resultOn, carriedIn, carriedOn}
 
@@ -72,6 +74,9 @@ byKind t output bytes (HandOver p) = repliedBox t (handOverOn (t .box) p) (t .he
 byKind t output bytes (Chain i f part) =
     replied t
     (chainAnswer (t .box) (t .logRows) (t .escrowRows) (t .logValues) (t .escrowValues) (wayIn f) i (numberIn f) (bytesIn bytes part)) output
+byKind t output bytes (Release i h) =
+    let r = releaseOn (t .box) (t .escrowRows) (t .escrowValues) i h in
+    replied (onEscrow t r) (r .change .answer) output
 
 -- ---- bytes shown: none but by the reads
 
@@ -119,6 +124,8 @@ module _ (t : Tables) (k : Valid (stateOf t)) (e : tables (stateOf t) ≡ t) (ou
   by-kind-valid Report = shows-none _ _ output (report-step t k e 0) (answered-alone _ _)
   by-kind-valid (HandOver p) = shows-none _ _ output (hand-over-step t k e p 0) (answered-alone _ _)
   by-kind-valid (Chain i f part) = shows-none _ _ output (chain-step t e (wayIn f) i (numberIn f) (bytesIn bytes part) 0) (answered-alone _ _)
+  by-kind-valid (Release i h) =
+      shows-none _ _ output (release-step t k e i h 0) (release-alone (t .box) (t .escrowRows) (t .escrowValues) i h)
 
 -- what is as `byKind` says is the laid-out step
 pub by-kind : {x : EntryResult} {t : Tables} {n : ℕ} → Sound t n → (output bytes : List ℕ) (c : code.Call)

@@ -8,7 +8,7 @@ use Rattle.record.specs.declared.Handle.{Handle}
 use Rattle.record.specs.declared.Part.{Part}
 use Rattle.record.specs.declared.First.{First}
 use Rattle.record.specs.declared.Call as code
-use Rattle.record.specs.declared.Call.the-variants.{Create, Exit, HeapWrite, HeapRead, SharedWrite, SharedRead, Attest, Check, Protect, Retrieve, Report, HandOver, Chain}
+use Rattle.record.specs.declared.Call.the-variants.{Create, Exit, HeapWrite, HeapRead, SharedWrite, SharedRead, Attest, Check, Protect, Retrieve, Report, HandOver, Chain, Release}
 use Rattle.record.specs.Meaning.{bytesIn, wayIn, numberIn, callIn}
 use Rattle.ideal.specs.declared.BoxRecord.{BoxRecord}
 use Rattle.ideal.specs.Layouts.{Sound}
@@ -25,10 +25,12 @@ use Rattle.log.specs.Narrow.{attestOn, checkOn}
 use Rattle.escrow.specs.Narrow.{protectOn}
 use Rattle.retrieval.specs.Narrow.{retrieveAnswer, retrieveHeaps}
 use Rattle.chain.specs.Narrow.{chainAnswer}
+use Rattle.release.specs.Narrow.{releaseOn}
 use Rattle.soundness.specs.Parts.{tablesOf}
 use Rattle.state.proofs.Edited.{counts-kept}
 use Rattle.log.proofs.Bridge.{attest-edits}
 use Rattle.escrow.proofs.Bridge.{protect-edits}
+use Rattle.release.proofs.Bridge.{release-edits}
 use Rattle.calls.specs.Entry.{resultOf, carriedOn}
 use Rattle.calls.proofs.ByKind.{byKind, by-kind}
 use Rattle.calls.proofs.Ready.{ready}
@@ -103,32 +105,32 @@ module _
 
     -- ---- kinds that alter the box record or a table
 
-    -- with the buffers left, the laid-out step; and a row is put only where one is not used
+    -- with the buffers left, the laid-out step; and the edits are by the counts, or by a release
     abbrev Carries : Change → (heaps shared logValues escrowValues output : List ℕ) → Type 0
     Carries r heaps′ shared′ lv′ ev′ output′ =
         (resultOf log escrow r heaps′ shared′ lv′ ev′ output′
         ≡ carriedOn (tablesOf b log escrow heaps shared lv ev) (callIn bytes called) output)
-        × EditsBy b (r .held) (r .edits)
+        × EditsBy b (escrow .rows) (r .held) (r .edits)
 
     module _ {r : Change} where
       pub created : {p i : ℕ} → called ≡ Create p i → r ≡ createOn b p i → Carries r heaps shared lv ev output
       unfolding byKind createOn
-      created e g = (by-kind s output bytes called (rw (e, g)), rw g (counts-kept _ b _ refl refl))
+      created e g = (by-kind s output bytes called (rw (e, g)), rw g (counts-kept _ b (escrow .rows) _ refl refl))
 
       pub handed-over : {p : ℕ} → called ≡ HandOver p → r ≡ handOverOn b p → Carries r heaps shared lv ev output
       unfolding byKind handOverOn
-      handed-over e g = (by-kind s output bytes called (rw (e, g)), rw g (counts-kept _ b _ refl refl))
+      handed-over e g = (by-kind s output bytes called (rw (e, g)), rw g (counts-kept _ b (escrow .rows) _ refl refl))
 
       pub exited : {left : List ℕ} → called ≡ Exit → r ≡ exitOn b → left ≡ exitHeaps b heaps → Carries r left shared lv ev output
       unfolding byKind exitOn
-      exited e g h = (by-kind s output bytes called (rw (e, g, h)), rw g (counts-kept _ b _ refl refl))
+      exited e g h = (by-kind s output bytes called (rw (e, g, h)), rw g (counts-kept _ b (escrow .rows) _ refl refl))
 
       pub attested : {o k : ℕ} {left : List ℕ} → called ≡ Attest o k → stored r left ≡ attestOn b (log .rows) heaps lv o k
           → Carries r heaps shared left ev output
       unfolding byKind
       attested {o} {k} e g = (
         by-kind s output bytes called (rw (e, ← g)),
-        rw (ap (λ (x : Stored). x .change) g) (attest-edits b (log .rows) heaps lv o k (ready s .runs) (ready s .log .few)),
+        rw (ap (λ (x : Stored). x .change) g) (attest-edits b (log .rows) (escrow .rows) heaps lv o k (ready s .runs) (ready s .log .few)),
       )
 
       pub protected : {i o k : ℕ} {d : Draw} {left : List ℕ} → called ≡ Protect i o k d
@@ -137,4 +139,12 @@ module _
       protected {i} {o} {k} {d} e g = (
         by-kind s output bytes called (rw (e, ← g)),
         rw (ap (λ (x : Stored). x .change) g) (protect-edits b (escrow .rows) heaps ev i o k d (ready s .runs) (ready s .escrow .few)),
+      )
+
+      pub released : {i : ℕ} {h : Handle} {left : List ℕ} → called ≡ Release i h → stored r left ≡ releaseOn b (escrow .rows) ev i h
+          → Carries r heaps shared lv left output
+      unfolding byKind
+      released {i} {h} e g = (
+        by-kind s output bytes called (rw (e, ← g)),
+        rw (ap (λ (x : Stored). x .change) g) (release-edits b (escrow .rows) ev i h (ready s .escrow .few) (ready s .escrowCount)),
       )

@@ -8,6 +8,8 @@ use Rattle.ideal.proofs.Facts.{facts, output-size}
 use Rattle.ideal.proofs.Laid.{valid-sound, tables-state}
 use Rattle.state.specs.Parts.{TableFits}
 use Rattle.state.proofs.Parts.{table-fits}
+use Rattle.release.specs.Narrow.{UsedFits}
+use Rattle.release.proofs.Bridge.{used-fits}
 use Rattle.services.specs.Narrow.{Leaving}
 use Rattle.services.proofs.Bridge.{exit-ready}
 
@@ -20,6 +22,8 @@ pub record Ready (t : Tables) (outputSize : ℕ) : Type 0 where
   pub output : outputSize ≡ 1024
   pub log : TableFits logTable (t .box .log) (t .logRows) (t .logValues)
   pub escrow : TableFits escrowTable (t .box .escrow) (t .escrowRows) (t .escrowValues)
+  pub escrowCount : length (t .escrowRows) ≡ 64
+  pub escrowUsed : UsedFits (t .box .escrow) (t .escrowRows)
 
 pub ready : {t : Tables} {n : ℕ} → Sound t n → Ready t n
 ready {t} {n} s =
@@ -34,4 +38,6 @@ ready {t} {n} s =
       output = output-size t n (s .sizes);
       log = table-fits logTable (f .log);
       escrow = table-fits escrowTable (f .escrow);
+      escrowCount = f .escrow .row-count;
+      escrowUsed = used-fits (f .escrow);
     }

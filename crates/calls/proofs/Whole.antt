@@ -51,13 +51,13 @@ usedIs used x =
 module _ {b : BoxRecord} {log : LogTable} {escrow : EscrowTable} {heaps shared lv ev output : List ℕ} {r : Change} {x : EntryResult} where
   -- a call with an answer alone puts no row
   pub nothing-put : {a : Answer} → r ≡ unchanged b a → resultOf log escrow (unchanged b a) heaps shared lv ev output ≡ x
-      → (resultOf log escrow r heaps shared lv ev output ≡ x) × EditsBy b (r .held) (r .edits)
-  nothing-put e h = (rw e h, rw e (no-edits b b refl refl))
+      → (resultOf log escrow r heaps shared lv ev output ≡ x) × EditsBy b (escrow .rows) (r .held) (r .edits)
+  nothing-put e h = (rw e h, rw e (no-edits b (escrow .rows) b refl refl))
 
 -- a record of so many bytes puts no other row
 pub with-used : (log : LogTable) (escrow : EscrowTable) {b : BoxRecord} {heaps shared lv ev output : List ℕ} {r c : Change} {used : ℕ} {x y : EntryResult}
-    → r ≡ withUsed c used → resultOf log escrow c heaps shared lv ev output ≡ y → EditsBy b (c .held) (c .edits) → usedIs used y ≡ x
-    → (resultOf log escrow r heaps shared lv ev output ≡ x) × EditsBy b (r .held) (r .edits)
+    → r ≡ withUsed c used → resultOf log escrow c heaps shared lv ev output ≡ y → EditsBy b (escrow .rows) (c .held) (c .edits) → usedIs used y ≡ x
+    → (resultOf log escrow r heaps shared lv ev output ≡ x) × EditsBy b (escrow .rows) (r .held) (r .edits)
 with-used log escrow {used = used} e h k w = (rw e (ap (usedIs used) h ∙ w), rw e k)
 
 -- ---- what the reader finds

@@ -1,6 +1,6 @@
 -- The kinds that alter neither the box record nor a table: their calls have an answer alone.
 use Rattle.record.specs.declared.Call as code
-use Rattle.record.specs.declared.Call.the-variants.{Create, Exit, HeapWrite, HeapRead, SharedWrite, SharedRead, Attest, Check, Protect, Retrieve, Report, HandOver, Chain}
+use Rattle.record.specs.declared.Call.the-variants.{Create, Exit, HeapWrite, HeapRead, SharedWrite, SharedRead, Attest, Check, Protect, Retrieve, Report, HandOver, Chain, Release}
 
 unfoldable pub Alone : code.Call → Type 0
 Alone (Create p i) = ⊥
@@ -16,3 +16,4 @@ Alone (Retrieve i o h) = Unit {0}
 Alone Report = Unit {0}
 Alone (HandOver p) = ⊥
 Alone (Chain i f v) = Unit {0}
+Alone (Release i h) = ⊥

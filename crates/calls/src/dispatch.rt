@@ -18,6 +18,7 @@ use log::attest;
 use log::check_pair;
 use record::Call;
 use record::Part;
+use release::release;
 use retrieval::retrieve;
 use services::create;
 use services::exit_running;
@@ -132,7 +133,7 @@ fn carry_out(
         ≡ carriedOn (tablesOf held log escrow (now (heaps .entry)) (now (shared .entry)) (now («log_values» .entry)) (now («escrow_values» .entry)))
         (callIn (now (bytes .entry)) called) (now (output .entry))
         ⌝ }
-    ensures { λ r. ⌜ EditsBy held (r .held) (r .edits) ⌝ }
+    ensures { λ r. ⌜ EditsBy held (escrow .rows) (r .held) (r .edits) ⌝ }
 {
     match called {
         Call::Create { place, identity } => create(held, place, identity),
@@ -145,6 +146,9 @@ fn carry_out(
             draw,
         } => protect(held, escrow, heaps, escrow_values, to, offset, length, draw),
         Call::HandOver { place } => hand_over(held, place),
+        Call::Release { identity, handle } => {
+            release(held, escrow, escrow_values, identity, handle)
+        }
         _ => {
             let a = answer_alone(
                 held,
@@ -187,7 +191,7 @@ pub fn carry_out_in(
         ≡ carriedIn profile (tablesOf held log escrow (now (heaps .entry)) (now (shared .entry)) (now («log_values» .entry)) (now («escrow_values» .entry)))
         (callIn (now (bytes .entry)) called) (now (output .entry))
         ⌝ }
-    ensures { λ r. ⌜ EditsBy held (r .held) (r .edits) ⌝ }
+    ensures { λ r. ⌜ EditsBy held (escrow .rows) (r .held) (r .edits) ⌝ }
 {
     let code = own_refusal(profile, held, log, heaps, log_values, called);
     if code != 0 {

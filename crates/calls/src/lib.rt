@@ -81,7 +81,7 @@ pub fn call_sound(
         ≡ soundOn profile (tablesOf held log escrow (now (heaps .entry)) (now (shared .entry)) (now («log_values» .entry)) (now («escrow_values» .entry)))
         (now (bytes .entry)) (now (output .entry))
         ⌝ }
-    ensures { λ r. ⌜ EditsBy held (r .held) (r .edits) ⌝ }
+    ensures { λ r. ⌜ EditsBy held (escrow .rows) (r .held) (r .edits) ⌝ }
 {
     match read_call(bytes) {
         Reading::Whole { call, used } => {
@@ -124,7 +124,7 @@ pub fn call(
         ≡ entryOn (boxOf profile) (tablesOf held log escrow (now (heaps .entry)) (now (shared .entry)) (now («log_values» .entry)) (now («escrow_values» .entry)))
         (now (bytes .entry)) (now (output .entry))
         ⌝ }
-    ensures { λ r. ⌜ EditsBy held (r .held) (r .edits) ⌝ }
+    ensures { λ r. ⌜ EditsBy held (escrow .rows) (r .held) (r .edits) ⌝ }
 {
     if !is_ready(
         held,

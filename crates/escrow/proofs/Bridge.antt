@@ -44,10 +44,10 @@ protects b i o n d runs few e =
 
 -- a row is put only where one is not used
 pub protect-edits : (b : BoxRecord) (rows : List EscrowRow) (heaps values : List ℕ) (i o n : ℕ) (d : Draw) → b .running ≤ 16
-    → b .escrow .rows ≤ 64 → let c = protectOn b rows heaps values i o n d .change in EditsBy b (c .held) (c .edits)
+    → b .escrow .rows ≤ 64 → let c = protectOn b rows heaps values i o n d .change in EditsBy b rows (c .held) (c .edits)
 unfolding protectOn protectedOn
 protect-edits b rows heaps values i o n d runs few =
-    unless-edits b values _ _ (λ e. escrow-edits b values _ _ (protects b i o n d runs few e .room .row))
+    unless-edits b values _ rows _ (λ e. escrow-edits b rows values _ _ (protects b i o n d runs few e .room .row))
 
 -- it uses no byte of a record, and shows none
 pub protect-alone : (b : BoxRecord) (rows : List EscrowRow) (heaps values : List ℕ) (i o n : ℕ) (d : Draw)
@@ -65,6 +65,7 @@ module _ (t : Tables) (k : Valid (stateOf t)) (e : tables (stateOf t) ≡ t) (i 
         source = callerOf (t .box);
         recipient = i;
         handle = freeHandle (length value) d (escrowOf (t .box) (t .escrowRows) (t .escrowValues));
+        mark = 0;
       }
 
   abbrev x : Stored

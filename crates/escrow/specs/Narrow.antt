@@ -17,7 +17,7 @@ unfoldable pub protectedOn : BoxRecord → List EscrowRow → (values : List ℕ
     → Stored
 protectedOn b rows values source recipient d v =
     let handle = freeHandle (length v) d (escrowOf b rows values) in
-    more escrowStore b values (record { source = source; recipient = recipient; handle = handle }) v
+    more escrowStore b values (record { source = source; recipient = recipient; handle = handle; mark = 0 }) v
 
 -- the last two of protect's tests alone
 unfoldable pub protectValue : BoxRecord → List EscrowRow → (values : List ℕ) → (source recipient : ℕ) → Draw

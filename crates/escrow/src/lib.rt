@@ -33,7 +33,7 @@ fn escrow_more(
     value: &[u8],
 ) -> Change
     requires { ⌜ (length (now values) ≡ 4096) × Room (held .escrow) (length (now value)) ⌝ }
-    ensures { λ r. ⌜ stored r (now (values .exit)) ≡ more escrowStore held (now (values .entry)) (record { source = source; recipient = recipient; handle = handle }) (now (value .entry)) ⌝ }
+    ensures { λ r. ⌜ stored r (now (values .exit)) ≡ more escrowStore held (now (values .entry)) (record { source = source; recipient = recipient; handle = handle; mark = 0 }) (now (value .entry)) ⌝ }
 {
     let used = held.escrow;
     let size = value.len() as u16;
@@ -44,6 +44,7 @@ fn escrow_more(
         handle,
         first: used.bytes,
         length: size,
+        mark: 0,
     };
     let raised = Used {
         rows: used.rows + 1,

@@ -3,7 +3,7 @@ use Prim.Native.Nat.{ℕ}
 use mathlib.Core.Path.{_≡_, refl, sym, ap, _∙_}
 use mathlib.Core.Bool.{_&&_, false≢true}
 use native.Mathlib.Omega.{arith}
-use Rattle.record.specs.Call.{Call, create, exit, heapWrite, heapRead, sharedWrite, sharedRead, attest, check, protect, retrieve, report, handOver, chain}
+use Rattle.record.specs.Call.{Call, create, exit, heapWrite, heapRead, sharedWrite, sharedRead, attest, check, protect, retrieve, report, handOver, chain, release}
 use Rattle.record.specs.Read.{whole, read}
 use Rattle.record.specs.Write.{filled}
 use Rattle.ideal.specs.State.{State, any}
@@ -78,6 +78,7 @@ answered s (retrieve i o h) used k r = record { number = λ n e. cc; used = refl
 answered s report used k r = record { number = λ n e. cc; used = refl; shown = λ h. refl }
 answered s (handOver p) used k r = record { number = λ n e. cc; used = refl; shown = λ h. refl }
 answered s (chain w i x v) used k r = record { number = λ n e. cc; used = refl; shown = λ h. refl }
+answered s (release i h) used k r = record { number = λ n e. cc; used = refl; shown = λ h. refl }
 
 pub accepted-answers : AcceptedAnswers callOn
 unfolding laid

@@ -6,7 +6,7 @@ use native.Mathlib.Omega.{arith}
 use native.Mathlib.Nat.{zero-add, add-zero}
 use lib.ListN.{length, getD}
 use lib.Dec.{eqb, ltb}
-use Rattle.record.specs.Call.{Call, create, exit, heapWrite, heapRead, sharedWrite, sharedRead, attest, check, protect, retrieve, report, handOver, chain}
+use Rattle.record.specs.Call.{Call, create, exit, heapWrite, heapRead, sharedWrite, sharedRead, attest, check, protect, retrieve, report, handOver, chain, release}
 use Rattle.record.specs.Write.{filled}
 use Rattle.ideal.specs.State.{State, caller, any}
 use Rattle.ideal.specs.Step.{paired, full, absent, valueIn, firstHolding, idle, vacant, beyond, tests, refusal}
@@ -44,3 +44,4 @@ module _ (s : State) (back : stateOf (tables s) ≡ s) (valid : Valid s) where
   call-first (handOver p) = rw (taken-at (s .identities) p, Bool·not-not (eqb (getD (s .identities) p 0) 0))
   call-first (chain w i x v) =
       ap (cond (idle s) 4) (chain-first s back 16 (record { way = w; identity = i; number = x }) v (omega arith))
+  call-first (release i h) = rw (found-row s back isAbsent absent refl (λ e at. refl) i h)

@@ -6,7 +6,7 @@ use Rattle.ideal.proofs.Numbers.{each-number, refusals-alter-nothing, n
 use Rattle.ideal.proofs.MissingBytes.{number-only-with-one, missing-is-exact}
 use Rattle.ideal.proofs.Accepts.{accepted-answers}
 use Rattle.ideal.proofs.Histories.{history-holds, reports}
-use Rattle.ideal.proofs.Accurate.{check-is-accurate, long-check-is-no, retrieve-is-accurate, chain-is-accurate, handle-once}
+use Rattle.ideal.proofs.Accurate.{check-is-accurate, long-check-is-no, retrieve-is-accurate, release-is-accurate, chain-is-accurate, handle-once}
 use Rattle.ideal.proofs.Secret.{secrecy}
 use Rattle.ideal.proofs.FirstFree.{handle-is-first-free}
 
@@ -27,6 +27,7 @@ demands =
             checks = check-is-accurate;
             long-checks = long-check-is-no;
             retrieves = retrieve-is-accurate;
+            releases = release-is-accurate;
             chains = chain-is-accurate;
             handles-once = handle-once;
             handles-free = handle-is-first-free;

@@ -10,8 +10,8 @@ use Rattle.record.specs.Layout.{stands, kinds, among, kindOf}
 use Rattle.record.specs.Read.{whole, read, fromLittle, field, contents, bytesField, fields, readFields, readKind, afterMap}
 use Rattle.record.specs.Write.{write, only, recordOf, filled, recordIn}
 use Rattle.fnv.specs.Fnv.{little}
-use Rattle.ideal.specs.State.{State, Move, nothing, takes, activates, empties, writes, shares, logs, escrows, fresh, cleared, heapAt, caller, ownPart, any, find, bytesUsed}
-use Rattle.ideal.specs.Step.{accepted, settle, stepBy, effect, refusal, firstHolding, tests, idle, vacant, beyond, full, isEscrowed, found, absent, valueIn, hasHandle, handleOf, next, freeFrom, freeHandle, paired, pairOf, protected, move, apply, readingBy, stepOnBy}
+use Rattle.ideal.specs.State.{State, Move, nothing, takes, activates, empties, writes, shares, logs, escrows, releases, fresh, cleared, heapAt, caller, ownPart, any, find, bytesUsed}
+use Rattle.ideal.specs.Step.{accepted, settle, stepBy, effect, refusal, firstHolding, tests, idle, vacant, beyond, full, isNamed, isEscrowed, found, absent, valueIn, hasHandle, handleOf, next, freeFrom, freeHandle, spent, givenUp, paired, pairOf, protected, move, apply, readingBy, stepOnBy}
 use Rattle.ideal.specs.Tables.{boxRecord, tables, freshTables}
 use Rattle.ideal.specs.Box.{Element, laid, callOn, elementAt, tablesFrom, tablesAfter, tablesBefore, answerAt}
 use Rattle.ideal.specs.Refusals.{ownBytes}
@@ -90,6 +90,7 @@ Known (writes p o v) n = Unit {0}
 Known (shares o v) n = Unit {0}
 Known (logs e) n = logs e ≡ n
 Known (escrows e) n = Unless (inside group (e .key .recipient)) (escrows e ≡ n)
+Known (releases i r h) n = Unit {0}
 
 pub data Steps : State → State → List Call → List Call → Type 0 where
   end : {s t : State} → Steps s t [] []
@@ -183,17 +184,18 @@ record Computed (a b : ℕ) : Type 0 where
 
 -- on the states, with the bytes left open
 computed : (a b : ℕ) → Computed a b
-unfolding after calls group fresh cleared ownPart any find bytesUsed full isEscrowed found absent valueIn hasHandle handleOf next freeFrom freeHandle paired firstHolding idle vacant beyond tests refusal protected move apply effect inside stands kinds among kindOf fromLittle field contents bytesField fields readFields readKind afterMap read only recordOf filled recordIn write little
+unfolding after calls group fresh cleared ownPart any find bytesUsed full isNamed isEscrowed found absent valueIn hasHandle handleOf next freeFrom freeHandle spent givenUp paired firstHolding idle vacant beyond tests refusal protected move apply effect inside stands kinds among kindOf fromLittle field contents bytesField fields readFields readKind afterMap read only recordOf filled recordIn write little
 computed a b =
     record {
       accepts =
           call refl refl (call refl refl (call refl refl (call refl refl (call refl refl (call refl refl (call refl refl
           (call refl refl (call refl refl (call refl refl (call refl refl (call refl refl (call refl refl (call refl refl
-          (call refl refl (call refl refl none)))))))))))))));
+          (call refl refl (call refl refl (call refl refl (call refl refl (call refl refl none))))))))))))))))));
       steps =
           alike tt (alike tt (alike tt (alike tt (alike tt (alike refl (alike refl
           (step (other-call 0 1 (a ∷ []) (b ∷ []) refl refl) tt
-          (alike tt (alike tt (alike tt (alike tt (alike tt (alike tt (alike tt (alike tt end)))))))))))))));
+          (alike tt (alike tt (alike tt (alike tt (alike tt (alike tt (alike tt (alike tt (alike tt (alike tt (alike tt
+          end))))))))))))))))));
       heap = refl;
     }
 

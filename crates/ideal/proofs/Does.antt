@@ -9,11 +9,12 @@ use lib.ListN.{length, length-drop}
 use lib.Seq.{length-take-le}
 use lib.Dec.{eqb, ltb}
 use borrow.Author.Tests.{lt-ltb, ltb-false, eqb-true, eqb-false, leb-false, not-false}
+use Rattle.record.specs.declared.Handle.{Handle}
 use Rattle.record.specs.declared.Draw.{Draw}
-use Rattle.record.specs.Call.{Call, create, exit, heapWrite, heapRead, sharedWrite, sharedRead, attest, check, protect, retrieve, report, handOver, chain}
+use Rattle.record.specs.Call.{Call, create, exit, heapWrite, heapRead, sharedWrite, sharedRead, attest, check, protect, retrieve, report, handOver, chain, release}
 use Rattle.record.specs.Write.{filled}
-use Rattle.ideal.specs.State.{State, Move, nothing, takes, activates, empties, writes, shares, logs, escrows, identityAt, caller, ownPart, any}
-use Rattle.ideal.specs.Step.{paired, pairOf, full, idle, vacant, beyond, tests, refusal, protected, move}
+use Rattle.ideal.specs.State.{State, Move, nothing, takes, activates, empties, writes, shares, logs, escrows, releases, identityAt, caller, ownPart, any}
+use Rattle.ideal.specs.Step.{paired, pairOf, full, found, absent, idle, vacant, beyond, tests, refusal, protected, move}
 use Rattle.ideal.specs.Refusals.{oneOf}
 use Rattle.ideal.specs.Valid.{Valid}
 use Rattle.lists.proofs.Bools.{and-other}
@@ -27,7 +28,7 @@ pub busy : (s : State) → Valid s → idle s ≡ false → s .running < 16
 unfolding idle
 busy s k e = let n = eqb-false (s .running) 16 e in let m = k .runs in omega arith
 
--- ---- what an attest and a protect passed
+-- ---- what an attest, a protect and a release passed
 
 pub record AttestPassed (s : State) (o n : ℕ) : Type 0 where
   pub runs : s .running < 16
@@ -65,6 +66,21 @@ protect-passed s i o n d k r =
       room = failed 13 (full (s .escrow) n) _ (passed 11 _ _ r₃);
     }
 
+pub record ReleasePassed (s : State) (i : ℕ) (h : Handle) : Type 0 where
+  pub runs : s .running < 16
+  pub named : i ≡ 0 → ⊥
+  pub there : absent (found s i h) ≡ false
+
+pub release-passed : (s : State) (i : ℕ) (h : Handle) → Valid s → refusal s (release i h) ≡ 0 → ReleasePassed s i h
+unfolding refusal tests
+release-passed s i h k r =
+    let r₁ = passed 3 (idle s) _ r in
+    record {
+      runs = busy s k (failed 3 (idle s) _ r);
+      named = eqb-false i 0 (failed 8 (eqb i 0) _ r₁);
+      there = failed 9 (absent (found s i h)) _ (passed 8 (eqb i 0) _ r₁);
+    }
+
 -- ---- moves
 
 pub data Does (s : State) : Call → Move → Type 0 where
@@ -77,6 +93,7 @@ pub data Does (s : State) : Call → Move → Type 0 where
   does-share : {c : Call} {o : ℕ} {v : List ℕ} → o + length v ≤ 1024 → Does s c (shares o v)
   does-log : {o n : ℕ} → AttestPassed s o n → Does s (attest o n) (logs (pairOf (caller s) (ownPart s o n)))
   does-escrow : {i o n : ℕ} {d : Draw} → ProtectPassed s i o n d → Does s (protect i o n d) (escrows (protected s i o n d))
+  does-release : {i : ℕ} {h : Handle} → ReleasePassed s i h → Does s (release i h) (releases i (caller s) h)
 
 -- ---- the move of each kind
 
@@ -107,3 +124,4 @@ does s (handOver p) k r =
     let there = failed 6 _ _ (passed 5 (ltb 16 p) _ r) in
     does-activate low (λ h. eqb-false (identityAt s p) 0 (and-other (ltb p 16) _ (lt-ltb p 16 h) there))
 does s (chain w i x v) k r = does-nothing
+does s (release i h) k r = does-release (release-passed s i h k r)

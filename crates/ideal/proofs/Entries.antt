@@ -1,7 +1,7 @@
 -- What holds of each entry, and of each two, by index and as a test of the whole list. Assumes nothing.
 use Prim.Native.Nat.{ℕ, zero, suc, _/_, _^_, _≤_, _<_}
 use mathlib.Core.Path.{_≡_, refl, sym, ap}
-use mathlib.Core.Bool.{Bool, true, false, not, _&&_}
+use mathlib.Core.Bool.{Bool, true, false, not, _&&_, cond}
 use mathlib.Core.List.{List, [], _∷_}
 use native.Mathlib.Omega.{arith}
 use lib.ListN.{length, getD}
@@ -46,13 +46,19 @@ module _ {A : Type 0} where
 
 -- ---- an entry
 
+no-bytes : {A : Type 0} (l : List A) → length l ≡ 0 → l ≡ []
+no-bytes [] h = refl
+no-bytes (a ∷ l) h = absurd (omega arith)
+
 unfoldable pub goodLogged : Logged → Bool
 goodLogged e = not (eqb (e .key .identity) 0) && rightTag e
 
 unfoldable pub goodEscrowed : Escrowed → Bool
 goodEscrowed e =
     not (eqb (e .key .source) 0)
-    && (not (eqb (e .key .recipient) 0) && eqb (e .key .handle .0 / 2 ^ 48) (length (e .value)))
+    && (not (eqb (e .key .recipient) 0)
+    && (leb (e .key .mark) 1
+    && cond (eqb (e .key .mark) 0) (eqb (e .key .handle .0 / 2 ^ 48) (length (e .value))) (eqb (length (e .value)) 0)))
 
 logged-good : (e : Logged) → goodLogged e ≡ true → GoodLogged e
 unfolding goodLogged rightTag
@@ -71,16 +77,28 @@ escrowed-good : (e : Escrowed) → goodEscrowed e ≡ true → GoodEscrowed e
 unfolding goodEscrowed
 escrowed-good e h =
     let g = and-right (not (eqb (e .key .source) 0)) _ h in
+    let m = and-right (not (eqb (e .key .recipient) 0)) _ g in
+    let c = and-right (leb (e .key .mark) 1) _ m in
     record {
       source = eqb-false _ 0 (not-true _ (and-left (not (eqb (e .key .source) 0)) _ h));
       recipient = eqb-false _ 0 (not-true _ (and-left (not (eqb (e .key .recipient) 0)) _ g));
-      handle = eqb-true _ _ (and-right (not (eqb (e .key .recipient) 0)) _ g);
+      mark = leb-true _ 1 (and-left (leb (e .key .mark) 1) _ m);
+      handle = λ z. eqb-true _ _ (rw (eq-eqb (e .key .mark) 0 z) at c);
+      spent = λ z. no-bytes (e .value) (eqb-true _ _ (rw (ne-eqb (e .key .mark) 0 (λ q. omega arith)) at c));
     }
 
 good-escrowed : (e : Escrowed) → GoodEscrowed e → goodEscrowed e ≡ true
 unfolding goodEscrowed
 good-escrowed e g =
-    and-true _ _ (not-is _ (ne-eqb _ 0 (g .source))) (and-true _ _ (not-is _ (ne-eqb _ 0 (g .recipient))) (eq-eqb _ _ (g .handle)))
+    and-true _ _ (not-is _ (ne-eqb _ 0 (g .source)))
+    (and-true _ _ (not-is _ (ne-eqb _ 0 (g .recipient)))
+    (and-true (leb (e .key .mark) 1) _ (le-leb _ 1 (g .mark))
+    (by-cases (eqb (e .key .mark) 0)
+    (λ z. rw z (eq-eqb _ _ (g .handle (eqb-true _ _ z))))
+    (λ z.
+    let n = eqb-false (e .key .mark) 0 z in
+    let m = g .mark in
+    rw z (eq-eqb _ _ (ap length (g .spent (omega arith))))))))
 
 -- ---- two entries
 

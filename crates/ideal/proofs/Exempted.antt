@@ -13,7 +13,7 @@ use Rattle.record.specs.Read.{whole, read, fromLittle, field, contents, bytesFi
 use Rattle.record.specs.Write.{write, only, recordOf, filled, recordIn}
 use Rattle.fnv.specs.Fnv.{little}
 use Rattle.ideal.specs.State.{heapAt, fresh, cleared, ownPart, any, find, bytesUsed}
-use Rattle.ideal.specs.Step.{Answer, refusedAnswer, refuse, accepted, settle, stepBy, effect, refusal, firstHolding, headOf, isMalformed, nextCount, nextCut, nextValue, bytesAfter, afterHead, linksAfter, linkValue, unvouched, follow, linksFrom, tests, idle, vacant, beyond, full, isEscrowed, found, absent, valueIn, hasHandle, handleOf, next, freeFrom, freeHandle, protected, move, apply, number, shown, readingBy, stepOnBy}
+use Rattle.ideal.specs.Step.{Answer, refusedAnswer, refuse, accepted, settle, stepBy, effect, refusal, firstHolding, headOf, isMalformed, nextCount, nextCut, nextValue, bytesAfter, afterHead, linksAfter, linkValue, unvouched, follow, linksFrom, tests, idle, vacant, beyond, full, isNamed, isEscrowed, found, absent, valueIn, hasHandle, handleOf, next, freeFrom, freeHandle, protected, move, apply, number, shown, readingBy, stepOnBy}
 use Rattle.ideal.specs.Tables.{Tables, boxRecord, tables, freshTables}
 use Rattle.ideal.specs.Box.{Element, Result, laid, callOn, elementAt, tablesFrom, tablesAfter, tablesBefore, answerAt}
 use Rattle.ideal.specs.Secrecy.{inside, groupRuns, same, PremiseAt, AlikeLists, Premise, isChain, ownChain, Secrecy}
@@ -42,7 +42,7 @@ record Computed (a b : ℕ) : Type 0 where
   own : ownChain group (tables (after fresh (before a))) (element last) ≡ true
 
 computed : (a b : ℕ) → Computed a b
-unfolding before group after fresh cleared ownPart any find bytesUsed full isEscrowed found absent valueIn hasHandle handleOf next freeFrom freeHandle firstHolding idle vacant beyond tests refusal protected move apply effect inside groupRuns isChain ownChain element tables boxRecord stands kinds among kindOf fromLittle field contents bytesField fields readFields readKind afterMap read only recordOf filled recordIn write little
+unfolding before group after fresh cleared ownPart any find bytesUsed full isNamed isEscrowed found absent valueIn hasHandle handleOf next freeFrom freeHandle firstHolding idle vacant beyond tests refusal protected move apply effect inside groupRuns isChain ownChain element tables boxRecord stands kinds among kindOf fromLittle field contents bytesField fields readFields readKind afterMap read only recordOf filled recordIn write little
 computed a b =
     record {
       accepts =
@@ -60,7 +60,7 @@ computed a b =
 answered : (stepElement (after fresh (before 1)) (element last) .answer ≡ links 0 1)
     × (stepElement (after fresh (before 3)) (element last) .answer ≡ links 0 2)
     × (stepElement (after fresh (before 0)) (element last) .answer ≡ links 19 0)
-unfolding stepElement links refusedAnswer refuse accepted settle stepBy readingBy stepOnBy number shown headOf isMalformed nextCount nextCut nextValue bytesAfter afterHead linksAfter linkValue unvouched follow linksFrom before after fresh cleared ownPart any find bytesUsed full isEscrowed found absent valueIn hasHandle handleOf next freeFrom freeHandle firstHolding idle vacant beyond tests refusal protected move apply effect element stands kinds among kindOf fromLittle field contents bytesField fields readFields readKind afterMap read only recordOf filled recordIn write little
+unfolding stepElement links refusedAnswer refuse accepted settle stepBy readingBy stepOnBy number shown headOf isMalformed nextCount nextCut nextValue bytesAfter afterHead linksAfter linkValue unvouched follow linksFrom before after fresh cleared ownPart any find bytesUsed full isNamed isEscrowed found absent valueIn hasHandle handleOf next freeFrom freeHandle firstHolding idle vacant beyond tests refusal protected move apply effect element stands kinds among kindOf fromLittle field contents bytesField fields readFields readKind afterMap read only recordOf filled recordIn write little
 answered = (refl, refl, refl)
 
 -- a call that neither attests nor protects makes nothing known

@@ -1,14 +1,14 @@
 -- The tests of soundness as plain facts, and the tests of rows as tests of entries. Assumes nothing.
 use Prim.Native.Nat.{ℕ, zero, _/_, _^_}
 use mathlib.Core.Path.{_≡_, refl, sym, ap, _∙_}
-use mathlib.Core.Bool.{Bool, true, not, _&&_}
+use mathlib.Core.Bool.{Bool, true, not, _&&_, cond}
 use mathlib.Core.List.{List, [], _∷_}
 use lib.ListN.{length}
 use lib.Dec.{eqb, leb}
 use borrow.Author.Tests.{eqb-true, leb-true, eq-eqb, le-leb}
 use Rattle.ideal.specs.State.{Entry, Logged, Escrowed, every}
 use Rattle.ideal.specs.Tables.{Tables, RowsOf, logTable, escrowTable, rowsFrom, takenMap, chunks, usedLog, usedEscrow, stateOf}
-use Rattle.ideal.specs.Soundness.{All, done, _and_, pass, sizesRight, runningTaken, emptyHeapsZero, short, differ, samePair, sameHandle, hasIdentity, hasIdentities, rightTag, carriesLength, soundTests, sound}
+use Rattle.ideal.specs.Soundness.{All, done, _and_, pass, sizesRight, runningTaken, emptyHeapsZero, short, differ, samePair, sameHandle, hasIdentity, hasIdentities, rightTag, rightMark, carriesLength, soundTests, sound}
 use Rattle.ideal.specs.Layouts.{Sound}
 use Rattle.lists.proofs.Bools.{and-left, and-right, and-true, and-assoc, and-swap}
 use Rattle.ideal.proofs.Entries.{isShort, goodLogged, goodEscrowed}
@@ -55,16 +55,22 @@ log-tests l =
     every-both p rightTag goodLogged (λ e. refl) l
     ∙ ap (λ b. b && every rightTag l) (sym (rows-every log-lawful hasIdentity p (λ e at. refl) 0 l))
 
-pub escrow-tests : (l : List Escrowed) → every goodEscrowed l
-    ≡ every hasIdentities (rowsFrom escrowTable 0 l) && every carriesLength (rowsFrom escrowTable 0 l)
-unfolding goodEscrowed hasIdentities carriesLength
+pub escrow-tests : (l : List Escrowed)
+    → let rows = rowsFrom escrowTable 0 l in
+    every goodEscrowed l ≡ every hasIdentities rows && (every rightMark rows && every carriesLength rows)
+unfolding goodEscrowed hasIdentities rightMark carriesLength
 escrow-tests l =
     let p : Escrowed → Bool = λ e. not (eqb (e .key .source) 0) && not (eqb (e .key .recipient) 0) in
-    let q : Escrowed → Bool = λ e. eqb (e .key .handle .0 / 2 ^ 48) (length (e .value)) in
-    every-both p q goodEscrowed (λ e. sym (and-assoc (not (eqb (e .key .source) 0)) (not (eqb (e .key .recipient) 0)) (q e))) l
+    let m : Escrowed → Bool = λ e. leb (e .key .mark) 1 in
+    let q : Escrowed → Bool =
+    λ e. cond (eqb (e .key .mark) 0) (eqb (e .key .handle .0 / 2 ^ 48) (length (e .value))) (eqb (length (e .value)) 0) in
+    let r : Escrowed → Bool = λ e. m e && q e in
+    every-both p r goodEscrowed (λ e. sym (and-assoc (not (eqb (e .key .source) 0)) (not (eqb (e .key .recipient) 0)) (r e))) l
+    ∙ ap (λ b. every p l && b) (every-both m q r (λ e. refl) l)
     ∙ sym
     (rw (
       rows-every escrow-lawful hasIdentities p (λ e at. refl) 0 l,
+      rows-every escrow-lawful rightMark m (λ e at. refl) 0 l,
       rows-every escrow-lawful carriesLength q (λ e at. refl) 0 l,
     ))
 
@@ -86,13 +92,14 @@ pub record Facts (t : Tables) : Type 0 where
   pub pairs-differ : differ samePair (stateOf t .log) ≡ true
   pub tags : every rightTag (stateOf t .log) ≡ true
   pub handles-differ : differ sameHandle (stateOf t .escrow) ≡ true
+  pub marks : every rightMark (usedEscrow t) ≡ true
   pub lengths : every carriesLength (usedEscrow t) ≡ true
 
 pub facts : (t : Tables) (n : ℕ) → Sound t n → Facts t
 unfolding sizesRight sound soundTests
 facts t n s =
     let (places, (heaps, (shared, (logRows, (logValues, (escrowRows, (escrowValues, (output, end)))))))) = each _ (s .sizes) in
-    let (runs, (map, (empty, (lr, (lb, (er, (eb, (lc, (ec, (ls, (es, (li, (ei, (pairs, (tags, (handles, (lengths, (lk, (lz, (ek, (ez, last))))))))))))))))))))) = each _ (s .box) in
+    let (runs, (map, (empty, (lr, (lb, (er, (eb, (lc, (ec, (ls, (es, (li, (ei, (pairs, (tags, (handles, (marks, (lengths, (lk, (lz, (ek, (ez, last)))))))))))))))))))))) = each _ (s .box) in
     record {
       places = eqb-true _ _ places;
       heaps = eqb-true _ _ heaps;
@@ -127,6 +134,7 @@ facts t n s =
       pairs-differ = pairs;
       tags = tags;
       handles-differ = handles;
+      marks = marks;
       lengths = lengths;
     }
 
@@ -171,6 +179,7 @@ facts-sound t f =
           also f .pairs-differ
           also f .tags
           also f .handles-differ
+          also f .marks
           also f .lengths
           also l .blank
           also l .zero

@@ -14,7 +14,7 @@ use Rattle.record.specs.Layout.{stands, kinds, among, kindOf}
 use Rattle.record.specs.Read.{read, fromLittle, field, contents, bytesField, fields, readFields, readKind, afterMap}
 use Rattle.record.specs.Write.{write, only, recordOf, filled, recordIn}
 use Rattle.ideal.specs.State.{Logged, State, fresh, cleared, ownPart, any, find, sameBytes, bytesUsed}
-use Rattle.ideal.specs.Step.{isPair, paired, full, withPair, isEscrowed, found, absent, valueIn, hasHandle, handleOf, next, freeFrom, freeHandle, firstHolding, idle, vacant, beyond, tests, refusal, protected, move, apply, effect, services, number, shown, Answer, accepted, settle, withCommon, readingBy, stepOnBy, stepBy}
+use Rattle.ideal.specs.Step.{isPair, paired, full, withPair, isNamed, isEscrowed, found, absent, valueIn, hasHandle, handleOf, next, freeFrom, freeHandle, firstHolding, idle, vacant, beyond, tests, refusal, protected, move, apply, effect, services, number, shown, Answer, accepted, settle, withCommon, readingBy, stepOnBy, stepBy}
 use Rattle.ideal.specs.Tables.{Tables, takenMap, boxRecord, tables, stateOf}
 use Rattle.ideal.specs.Box.{Element, Result, callOn, elementAt, tablesBefore, answerAt}
 use Rattle.ideal.specs.Valid.{Valid}
@@ -103,7 +103,7 @@ record Computed : Type 0 where
   long-rows : length (stateBefore long 43 .escrow) ≡ 41
 
 computed : Computed
-unfolding short long protects firstLength kindIn element elementAt answer stepElement stateBefore stateFrom mixed fnvFrom fnv1a little tagOf stands kinds among kindOf fromLittle field contents bytesField fields readFields readKind afterMap read write only recordOf filled recordIn fresh cleared ownPart any find sameBytes bytesUsed isPair paired full withPair isEscrowed found absent valueIn hasHandle handleOf next freeFrom freeHandle firstHolding idle vacant beyond tests refusal protected move apply effect services number shown accepted settle stepBy readingBy stepOnBy takenMap
+unfolding short long protects firstLength kindIn element elementAt answer stepElement stateBefore stateFrom mixed fnvFrom fnv1a little tagOf stands kinds among kindOf fromLittle field contents bytesField fields readFields readKind afterMap read write only recordOf filled recordIn fresh cleared ownPart any find sameBytes bytesUsed isPair paired full withPair isNamed isEscrowed found absent valueIn hasHandle handleOf next freeFrom freeHandle firstHolding idle vacant beyond tests refusal protected move apply effect services number shown accepted settle stepBy readingBy stepOnBy takenMap
 computed =
     record {
       short-size = refl;

@@ -4,7 +4,7 @@ use mathlib.Core.Path.{_≡_, refl, sym, ap, _∙_}
 use mathlib.Core.Option.{some}
 use lib.Dec.{eqb}
 use borrow.Author.Tests.{eqb-true, eqb-false}
-use Rattle.record.specs.Call.{Call, create, exit, heapWrite, heapRead, sharedWrite, sharedRead, attest, check, protect, retrieve, report, handOver, chain}
+use Rattle.record.specs.Call.{Call, create, exit, heapWrite, heapRead, sharedWrite, sharedRead, attest, check, protect, retrieve, report, handOver, chain, release}
 use Rattle.record.specs.Read.{whole, read}
 use Rattle.ideal.specs.Step.{number}
 use Rattle.ideal.specs.Tables.{Tables}
@@ -72,6 +72,7 @@ module _ (box : Tables → Element → Result) (one : OneCall box) (t : Tables) 
   number-is report used q z = by-count _ used q z _ refl
   number-is (handOver p) used q z = plain _ used q z _ refl
   number-is (chain w i x v) used q z = by-count _ used q z _ refl
+  number-is (release i h) used q z = plain _ used q z _ refl
 
   fixed : r ≡ s
   fixed =

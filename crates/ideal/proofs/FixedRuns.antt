@@ -14,7 +14,7 @@ use borrow.Author.Tests.{eqb-true, eqb-false, ne-eqb, eq-eqb}
 use Rattle.fnv.specs.declared.Tag.{Tag}
 use Rattle.record.specs.declared.Handle.{Handle}
 use Rattle.record.specs.declared.Draw.{Draw}
-use Rattle.record.specs.Call.{Call, create, exit, heapWrite, heapRead, sharedWrite, sharedRead, attest, check, protect, retrieve, report, handOver, chain}
+use Rattle.record.specs.Call.{Call, create, exit, heapWrite, heapRead, sharedWrite, sharedRead, attest, check, protect, retrieve, report, handOver, chain, release}
 use Rattle.record.specs.Read.{Reading, refused, whole, read}
 use Rattle.record.specs.Write.{filled}
 use Rattle.ideal.specs.State.{Move, any}
@@ -24,7 +24,7 @@ use Rattle.ideal.specs.Box.{Element, Result, callOn, elementAt, tablesFr
 use Rattle.ideal.specs.Refusals.{callerIn, ownBytes, oneOf, numberAt}
 use Rattle.ideal.specs.Answers.{plainNumber, Answered}
 use Rattle.ideal.specs.History.{moveSeen, added, pastFrom, pastOf, Shows}
-use Rattle.ideal.specs.Accuracy.{Earlier, LogsAt, ProtectsAt, ProtectedBefore, HandsOut, Runs, LinkValue, Vouched, was-logged, was-escrowed, Custody}
+use Rattle.ideal.specs.Accuracy.{Earlier, LogsAt, ProtectsAt, ReleasesAt, HeldBefore, HandsOut, Runs, LinkValue, Vouched, was-logged, was-escrowed, Custody}
 use Rattle.ideal.specs.Demands.{Demand1, Demand2}
 use Rattle.ideal.specs.Fixed.{FixedByTwo, Fixed}
 use Rattle.lists.proofs.Bools.{by-cases}
@@ -94,6 +94,7 @@ same-event (retrieve i o h) t w x n f = rw (f i o h refl)
 same-event report t w x n f = refl
 same-event (handOver p) t w x n f = refl
 same-event (chain a i y v) t w x n f = refl
+same-event (release i h) t w x n f = refl
 
 -- ---- what a refused and an accepted call add to the past
 
@@ -149,6 +150,15 @@ module _ (a b : Box) (es fs : List Element) (j : ℕ) (e : elementAt es j ≡ el
         gets = sym (ap (λ y. y .number) (h .accepted (sym (h .code) ∙ p .accepts))) ∙ p .gets;
       }
 
+  pub releases-too : {i r : ℕ} {g : Handle} → ReleasesAt a es i r g j → ReleasesAt b fs i r g j
+  releases-too p =
+      record {
+        used = p .used;
+        reads = sym (ap (λ y. read (y .bytes)) e) ∙ p .reads;
+        accepts = sym (h .code) ∙ p .accepts;
+        by = sym (ap (λ y. callerIn y) t) ∙ p .by;
+      }
+
 -- ---- the induction
 
 -- two boxes up to an index
@@ -167,17 +177,26 @@ module _ {a b : Box} {es : List Element} {k : ℕ} (h : SameTo a b es k) where
       let l = x .before in
       record { index = j; before = l; there = logs-too a b es es j refl (h .tables j (omega arith)) (h .answers j l) (x .there) }
 
-  protected-too : {i : ℕ} {g : Handle} {v : List ℕ} → ProtectedBefore a es k i g v → ProtectedBefore b es k i g v
-  protected-too {i} {g} {v} x =
+  held-too : {i : ℕ} {g : Handle} {v : List ℕ} → HeldBefore a es k i g v → HeldBefore b es k i g v
+  held-too {i} {g} {v} x =
       let j = x .index in
       let l = x .before in
       let p = protects-too a b es es j refl (h .tables j (omega arith)) (h .answers j l) (x .there) in
       let q = ap (λ y. callerIn y) (h .tables k (omega arith)) in
-      record { index = j; before = l; there = subst (λ r. ProtectsAt b es i r g v j) q p }
+      let w = back h in
+      record {
+        index = j;
+        before = l;
+        there = subst (λ r. ProtectsAt b es i r g v j) q p;
+        since = λ m n o r.
+            x .since m n o
+            (subst (λ c. ReleasesAt a es i c g m) (sym q)
+            (releases-too b a es es m refl (w .tables m (omega arith)) (w .answers m o) r));
+      }
 
   vouched-too : {g : LinkValue} → Vouched a es k g → Vouched b es k g
   vouched-too (was-logged w x) = was-logged w (logged-too x)
-  vouched-too (was-escrowed w x) = was-escrowed w (protected-too x)
+  vouched-too (was-escrowed w x) = was-escrowed w (held-too x)
 
   custody-too : {first : Link} {v : List ℕ} {n : ℕ} → Custody a es k first v n → Custody b es k first v n
   custody-too c =
@@ -328,7 +347,7 @@ module _ (box : Box) (two : Demand2 box) where
         let x = handed es k i o a used q z in
         let v = x .value in
         let y = demands .two .retrieves es k i o a used q .hands-out v .0 (x .is) in
-        record { value = v; r = two .retrieves es k i o a used q .hands-out v .1 (y .0, protected-too (back h) (y .1), y .2); s = x .is }
+        record { value = v; r = two .retrieves es k i o a used q .hands-out v .1 (y .0, held-too (back h) (y .1), y .2); s = x .is }
 
     report-is : (used : ℕ) → read (e .bytes) ≡ whole report used → answerAt callOn es k .code ≡ 0
         → answerAt box es k .number ≡ answerAt callOn es k .number
@@ -353,6 +372,7 @@ module _ (box : Box) (two : Demand2 box) where
     number-is report used q z = report-is used q z
     number-is (handOver p) used q z = plain _ used q z _ refl
     number-is (chain w i x v) used q z = chain-is w i x v used q z
+    number-is (release i h) used q z = plain _ used q z _ refl
 
     shown-is : (c : Call) (used : ℕ) → read (e .bytes) ≡ whole c used → answerAt callOn es k .code ≡ 0
         → answerAt box es k .shown ≡ answerAt callOn es k .shown
@@ -374,6 +394,7 @@ module _ (box : Box) (two : Demand2 box) where
     shown-is report used q z = none _ used q z refl
     shown-is (handOver p) used q z = none _ used q z refl
     shown-is (chain w i x v) used q z = none _ used q z refl
+    shown-is (release i h) used q z = none _ used q z refl
 
     when-accepted : (c : Call) (used : ℕ) → read (e .bytes) ≡ whole c used → answerAt callOn es k .code ≡ 0
         → SameTo box callOn es (suc k)

@@ -1,4 +1,4 @@
--- No handle is given twice: an accepted protect gives one that is in no escrow row, and puts it into a row, and rows stay.
+-- No handle is given twice: an accepted protect gives one that is in no escrow row, and puts it into a row, and rows stay, spent ones too.
 -- A call is accepted on a sound box only, so nothing is asked of the calls between two protects. Assumes nothing.
 use Prim.Native.Nat.{ℕ, zero, suc, _/_, _^_, _<_}
 use mathlib.Core.Path.{_≡_, sym, ap, _∙_}
@@ -12,7 +12,7 @@ use Rattle.record.specs.declared.Handle.{Handle}
 use Rattle.record.specs.declared.Draw.{Draw}
 use Rattle.record.specs.Call.{Call, protect}
 use Rattle.record.specs.Read.{Reading, refused, whole, read}
-use Rattle.ideal.specs.State.{State, Move, nothing, takes, activates, empties, writes, shares, logs, escrows, any}
+use Rattle.ideal.specs.State.{State, Move, nothing, takes, activates, empties, writes, shares, logs, escrows, releases, any}
 use Rattle.ideal.specs.Step.{hasHandle, protected, move, apply, effect, number, refuse, accepted, settle, refusal, onReading, readingBy, stepOnBy, stepBy}
 use Rattle.ideal.specs.Tables.{Tables, boxRecord, tables, stateOf, freshTables}
 use Rattle.ideal.specs.Soundness.{sizesRight, sound}
@@ -25,6 +25,7 @@ use Rattle.ideal.proofs.Free.{free-handle, handle-size}
 use Rattle.ideal.proofs.Table.{escrow-lawful, entries-back}
 use Rattle.ideal.proofs.Facts.{output-size}
 use Rattle.ideal.proofs.Accepts.{sound-of, on-state}
+use Rattle.ideal.proofs.GivenUp.{handles-stay}
 use Rattle.ideal.proofs.Does.{ProtectPassed, protect-passed}
 
 -- ---- the handle that an accepted protect gives
@@ -78,6 +79,7 @@ module _ (h : Handle) where
   stays-apply s (shares o v) u = u
   stays-apply s (logs e) u = u
   stays-apply s (escrows e) u = any-append (hasHandle h) (s .escrow) _ ∙ or-true-left _ _ u
+  stays-apply s (releases i r g) u = handles-stay g i r h (s .escrow) ∙ u
 
   stays-settle : (n : ℕ) (s : State) (c : Call) (used : ℕ) → any (hasHandle h) (s .escrow) ≡ true
       → any (hasHandle h) (settle n s c used .state .escrow) ≡ true

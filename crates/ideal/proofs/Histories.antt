@@ -4,11 +4,11 @@ use Prim.Native.Nat.{ℕ, zero, suc, _+_, _*_}
 use mathlib.Core.Path.{_≡_, refl, sym, ap, _∙_}
 use mathlib.Core.List.{List, [], _∷_}
 use native.Mathlib.Omega.{arith}
-use lib.ListN.{length, getD, take}
+use lib.ListN.{length, getD, take, length-map, List·getD-map}
 use lib.Dec.{eqb, eqb·suc-zero}
 use borrow.Author.Tests.{ltb-false, eqb-true, not-false}
 use Rattle.record.specs.declared.Handle.{Handle}
-use Rattle.record.specs.Call.{Call, create, exit, heapWrite, heapRead, sharedWrite, sharedRead, attest, check, protect, retrieve, report, handOver, chain}
+use Rattle.record.specs.Call.{Call, create, exit, heapWrite, heapRead, sharedWrite, sharedRead, attest, check, protect, retrieve, report, handOver, chain, release}
 use Rattle.record.specs.Read.{Reading, refused, whole, read}
 use Rattle.ideal.specs.State.{State, Move, writes, fresh, heapAt, ownPart, bytesUsed}
 use Rattle.ideal.specs.Step.{found, valueIn, tests, refusal, beyond, protected, move, apply, effect, number, shown, refuse, refusedAnswer, accepted, settle, onReading, readingBy, stepOnBy, stepBy}
@@ -27,6 +27,7 @@ use Rattle.ideal.proofs.Hosted.{logged-is, escrowed-is}
 use Rattle.ideal.proofs.Memory.{part-at, flat-at, taken-at, ones-taken, bits-occupied}
 use Rattle.ideal.proofs.OwnHeap.{sized, own-bytes, written-stands}
 use Rattle.ideal.proofs.Table.{part-length}
+use Rattle.ideal.proofs.Left.{leftBy, left, bytes-left}
 use Rattle.ideal.proofs.Past.{StateAsPast, fresh-past, past-kept}
 
 -- ---- the move of each kind, as the tables before and after it tell
@@ -60,11 +61,12 @@ event-is s (retrieve i o a) k r = ap (writes (s .running) o) (retrieved s i o a 
 event-is s report k r = refl
 event-is s (handOver p) k r = refl
 event-is s (chain w i x v) k r = refl
+event-is s (release i h) k r = refl
 
 -- ---- the tables of a state are as the past says
 
 tables-past : (s : State) (past : List Move) → Valid s → StateAsPast s past → AsThePast (tables s) past
-unfolding tables boxRecord
+unfolding tables boxRecord leftBy
 tables-past s past k h =
     record {
       running = h .running;
@@ -76,17 +78,19 @@ tables-past s past k h =
       shared = h .shared;
       logRows = ap length (h .log);
       logBytes = ap bytesUsed (h .log);
-      escrowRows = ap length (h .escrow);
-      escrowBytes = ap bytesUsed (h .escrow);
+      escrowRows = ap length (h .escrow) ∙ length-map (protects past) (left past);
+      escrowBytes = ap bytesUsed (h .escrow) ∙ bytes-left past (protects past);
       log = λ j d b.
           let is = logged-is s k d j (omega (arith, ap length (h .log))) ∙ ap (λ l. getD l j d) (h .log) in
           record { identity = ap (λ e. e .key .identity) is; tag = ap (λ e. e .key .tag) is; value = ap (λ e. e .value) is };
       escrow = λ j d b.
-          let is = escrowed-is s k d j (omega (arith, ap length (h .escrow))) ∙ ap (λ l. getD l j d) (h .escrow) in
+          let is = escrowed-is s k (left past d) j (omega (arith, ap length (h .escrow), length-map (protects past) (left past)))
+          ∙ ap (λ l. getD l j (left past d)) (h .escrow) ∙ List·getD-map (left past) (protects past) j d in
           record {
             source = ap (λ e. e .key .source) is;
             recipient = ap (λ e. e .key .recipient) is;
             handle = ap (λ e. e .key .handle) is;
+            mark = ap (λ e. e .key .mark) is;
             value = ap (λ e. e .value) is;
           };
       sound = sound-tables s k;

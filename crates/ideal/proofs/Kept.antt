@@ -25,9 +25,10 @@ use Rattle.ideal.proofs.Lists.{bytes-more, differ-more}
 use Rattle.ideal.proofs.Entries.{goodLogged, goodEscrowed, isShort, Good, LogGood, log-of, escrow-of, Places, valid, places-of}
 use Rattle.ideal.proofs.Facts.{output-size}
 use Rattle.ideal.proofs.Laid.{state-tables, sound-tables, valid-sound, tables-state, fresh-tables, stepElement, call-is}
-use Rattle.ideal.proofs.Does.{Does, does-nothing, does-take, does-activate, does-empty, does-write, does-share, does-log, does-escrow, does}
+use Rattle.ideal.proofs.Does.{Does, does-nothing, does-take, does-activate, does-empty, does-write, does-share, does-log, does-escrow, does-release, does}
 pub use Rattle.ideal.proofs.Does.{busy, own-size}
 use Rattle.ideal.proofs.Handles.{in-no-row, carries-length}
+use Rattle.ideal.proofs.GivenUp.{good-after}
 
 -- ---- places
 
@@ -168,9 +169,11 @@ valid-apply {s} k (does-escrow {i = i} {o = o} {n = n} {d = d} a) =
     let good : goodEscrowed (protected s i o n d) ≡ true =
     and-true (not (eqb (caller s) 0)) _ (not-is _ (ne-eqb _ _ (k .live (a .runs))))
     (and-true (not (eqb i 0)) _ (not-is _ (ne-eqb i 0 (a .named)))
-    (eq-eqb _ _ (carries-length s i o n d k a ∙ sym size))) in
+    (and-true true _ refl (eq-eqb _ _ (carries-length s i o n d k a ∙ sym size)))) in
     let new = new-handle (protected s i o n d) (s .escrow) (in-no-row s i o n d k a) in
     valid _ (places-of k) (k .shared) (log-of k) (good-more _ n (escrow-of k) size (omega arith) (a .room) good new)
+valid-apply {s} k (does-release {i = i} {h = h} a) =
+    valid _ (places-of k) (k .shared) (log-of k) (good-after h i (caller s) (s .escrow) (escrow-of k))
 
 -- ---- a fresh box
 

@@ -13,7 +13,7 @@ use Rattle.ideal.specs.declared.Used.{Used}
 use Rattle.ideal.specs.State.{Entry, State, cleared, fresh, every, bytesUsed}
 use Rattle.ideal.specs.Step.{Stepped, refuse, stepOn}
 use Rattle.ideal.specs.Tables.{Tables, RowsOf, logTable, escrowTable, padded, valuesOf, rowsFrom, rowsOf, entriesOf, takenMap, flat, chunks, boxRecord, tables, usedLog, usedEscrow, stateOf, freshTables}
-use Rattle.ideal.specs.Soundness.{sizesRight, runningTaken, short, hasIdentity, hasIdentities, rightTag, differ, samePair, sameHandle, sound}
+use Rattle.ideal.specs.Soundness.{sizesRight, runningTaken, short, hasIdentity, hasIdentities, rightTag, rightMark, differ, samePair, sameHandle, sound}
 use Rattle.ideal.specs.Box.{Element, laid, callOn, unsound, boxBy}
 use Rattle.ideal.specs.Layouts.{Sound, LayoutsAgree}
 use Rattle.lists.proofs.Bools.{by-cases, and-left, and-right, and-true, or-true-left, or-true-right, not-is}
@@ -63,6 +63,7 @@ module _ (s : State) (k : Valid s) where
       let escrow-used = used-rows escrow-lawful (s .escrow) in
       let log-good = sym (log-tests (s .log)) ∙ l .good in
       let escrow-good = sym (escrow-tests (s .escrow)) ∙ e .good in
+      let escrow-right = and-right (every hasIdentities (rowsFrom escrowTable 0 (s .escrow))) _ escrow-good in
       record {
         places = k .places;
         heaps = flat-length (s .heaps) (sized s k) ∙ rw (k .heaps);
@@ -81,7 +82,8 @@ module _ (s : State) (k : Valid s) where
         pairs-differ = ap (λ x. differ samePair (x .log)) state-tables ∙ l .apart;
         tags = ap (λ x. every rightTag (x .log)) state-tables ∙ and-right (every hasIdentity (rowsFrom logTable 0 (s .log))) _ log-good;
         handles-differ = ap (λ x. differ sameHandle (x .escrow)) state-tables ∙ e .apart;
-        lengths = rw escrow-used (and-right (every hasIdentities (rowsFrom escrowTable 0 (s .escrow))) _ escrow-good);
+        marks = rw escrow-used (and-left _ _ escrow-right);
+        lengths = rw escrow-used (and-right (every rightMark (rowsFrom escrowTable 0 (s .escrow))) _ escrow-right);
       }
 
   pub sound-tables : Sound (tables s) 1024
@@ -153,7 +155,7 @@ module _ (t : Tables) (n : ℕ) (h : Sound t n) where
       let l = entriesOf escrowTable (t .escrowValues) (usedEscrow t) in
       let back = rows-of-entries escrow-lawful (f .escrow) in
       good-held escrow-lawful (f .escrow) (f .escrow-short)
-      (escrow-tests l ∙ rw back (and-true _ _ (f .escrow-identities) (f .lengths))) (f .handles-differ)
+      (escrow-tests l ∙ rw back (and-true _ _ (f .escrow-identities) (and-true _ _ (f .marks) (f .lengths)))) (f .handles-differ)
 
   pub valid-sound : Valid (stateOf t)
   unfolding stateOf

@@ -101,8 +101,8 @@ module _ (es : List Element) (k : ℕ) where
           λ x. is ∙ rw (eq-eqb _ 1024 (x .0)) (x .1),
         )
 
-    -- kinds 11, 12 and 15
-    module _ (kind : oneOf (11 ∷ 12 ∷ 15 ∷ []) (filled c .kind) ≡ true) where
+    -- kinds 11, 12, 15 and 16
+    module _ (kind : oneOf (11 ∷ 12 ∷ 15 ∷ 16 ∷ []) (filled c .kind) ≡ true) where
       refuses-escrow : levelOneRefusal s c ≡ 21
       unfolding levelOneRows firstOf
       refuses-escrow = rows-first s (state-tables s valid) valid c ∙ rw kind

@@ -8,9 +8,9 @@ use native.Mathlib.Omega.{arith}
 use lib.ListN.{length}
 use lib.Dec.{eqb, ltb, leb}
 use borrow.Author.Tests.{eqb-true, ne-eqb, ltb-false, leb-true, le-leb}
-use Rattle.record.specs.Call.{Call, create, exit, heapWrite, heapRead, sharedWrite, sharedRead, attest, check, protect, retrieve, report, handOver, chain}
+use Rattle.record.specs.Call.{Call, create, exit, heapWrite, heapRead, sharedWrite, sharedRead, attest, check, protect, retrieve, report, handOver, chain, release}
 use Rattle.record.specs.Read.{Reading, refused, whole, read}
-use Rattle.ideal.specs.State.{State, Move, nothing, takes, activates, empties, writes, shares, logs, escrows, any, every}
+use Rattle.ideal.specs.State.{State, Move, nothing, takes, activates, empties, writes, shares, logs, escrows, releases, any, every}
 use Rattle.ideal.specs.Step.{tests}
 use Rattle.ideal.specs.Tables.{Tables, stateOf, freshTables}
 use Rattle.ideal.specs.Box.{Element, laid, tablesAfter}
@@ -39,6 +39,7 @@ lowMove (writes p o v) = true
 lowMove (shares o v) = true
 lowMove (logs e) = true
 lowMove (escrows e) = false
+lowMove (releases i r h) = false
 
 abbrev Low : List Move → Type 0
 Low past = every lowMove past ≡ true
@@ -56,6 +57,7 @@ low-runs (writes p o v ∷ past) h = low-runs past h
 low-runs (shares o v ∷ past) h = low-runs past h
 low-runs (logs e ∷ past) h = low-runs past h
 low-runs (escrows e ∷ past) h = absurd (false≢true h)
+low-runs (releases i r g ∷ past) h = absurd (false≢true h)
 
 low-holder : (past : List Move) (p : ℕ) → 3 < p → Low past → holder past p ≡ 0
 unfolding every lowMove holder
@@ -70,6 +72,7 @@ low-holder (writes q o v ∷ past) p l h = low-holder past p l h
 low-holder (shares o v ∷ past) p l h = low-holder past p l h
 low-holder (logs e ∷ past) p l h = low-holder past p l h
 low-holder (escrows e ∷ past) p l h = absurd (false≢true h)
+low-holder (releases i r g ∷ past) p l h = absurd (false≢true h)
 
 low-protects : (past : List Move) → Low past → length (protects past) ≡ 0
 unfolding every lowMove protects
@@ -82,6 +85,7 @@ low-protects (writes p o v ∷ past) h = low-protects past h
 low-protects (shares o v ∷ past) h = low-protects past h
 low-protects (logs e ∷ past) h = low-protects past h
 low-protects (escrows e ∷ past) h = absurd (false≢true h)
+low-protects (releases i r g ∷ past) h = absurd (false≢true h)
 
 -- ---- the moves of accepted calls
 
@@ -109,6 +113,7 @@ low-seen s t u n (retrieve i o h) r = refl
 low-seen s t u n report r = refl
 low-seen s t u n (handOver p) r = low-or-none p (failed 21 _ _ (passed 5 _ _ r))
 low-seen s t u n (chain w i x v) r = refl
+low-seen s t u n (release i h) r = absurd (true≢false (failed 20 true _ r))
 
 accepted-passes : (t : Tables) (e : Element) (c : Call) (used : ℕ) → read (e .bytes) ≡ whole c used → levelOneOn t e .answer .code ≡ 0
     → levelOneRefusal (stateOf t) c ≡ 0

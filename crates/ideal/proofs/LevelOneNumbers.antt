@@ -6,7 +6,7 @@ use mathlib.Core.List.{List, [], _∷_}
 use native.Mathlib.Nat.{add-zero}
 use lib.ListN.{getD}
 use lib.Dec.{eqb, ltb}
-use Rattle.record.specs.Call.{Call, create, exit, heapWrite, heapRead, sharedWrite, sharedRead, attest, check, protect, retrieve, report, handOver, chain}
+use Rattle.record.specs.Call.{Call, create, exit, heapWrite, heapRead, sharedWrite, sharedRead, attest, check, protect, retrieve, report, handOver, chain, release}
 use Rattle.record.specs.Write.{filled}
 use Rattle.ideal.specs.State.{State, caller, any}
 use Rattle.ideal.specs.Step.{paired, full, firstHolding, idle, vacant, beyond, tests, refusal}
@@ -67,6 +67,7 @@ module _ (s : State) (back : stateOf (tables s) ≡ s) (valid : Valid s) where
       unfold putAfter tests firstHolding callConditions rowAfter vacant tables boxRecord in
       rw (taken-at (s .identities) p, Bool·not-not (eqb (getD (s .identities) p 0) 0))
   rows-first (chain w i x v) = unfold firstHolding in refl
+  rows-first (release i h) = unfold firstHolding in refl
 
 level-one-first : (t : Tables) (n : ℕ) → Sound t n → (c : Call) → levelOneRefusal (stateOf t) c ≡ firstOf (levelOneRows t c)
 level-one-first t n h c =

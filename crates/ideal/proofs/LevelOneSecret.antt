@@ -4,7 +4,7 @@ use mathlib.Core.Path.{_≡_, refl, sym, ap, _∙_, subst, subst₂}
 use mathlib.Core.Bool.{Bool, true, false}
 use native.Mathlib.Omega.{arith}
 use lib.Dec.{eqb}
-use Rattle.record.specs.Call.{Call, create, exit, heapWrite, heapRead, sharedWrite, sharedRead, attest, check, protect, retrieve, report, handOver, chain}
+use Rattle.record.specs.Call.{Call, create, exit, heapWrite, heapRead, sharedWrite, sharedRead, attest, check, protect, retrieve, report, handOver, chain, release}
 use Rattle.record.specs.Read.{Reading, refused, whole, read}
 use Rattle.record.specs.Write.{filled}
 use Rattle.ideal.specs.State.{State}
@@ -77,6 +77,7 @@ module _ (G : ℕ → Bool) {s t : State} (k : SameBut (held G) s t) (v : Valid 
   same-call x report u r = refl
   same-call x (handOver q) u r = refl
   same-call x (chain l i y b) u r = refl
+  same-call x (release i h) u r = refl
 
   same-reading : eqb (e .outputSize) 1024 ≡ true → (r : Reading) → read (e .bytes) ≡ r → barredReading s r ≡ barredReading t r
   unfolding barredReading

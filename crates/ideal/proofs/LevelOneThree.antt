@@ -9,7 +9,7 @@ use lib.ListN.{length, getD}
 use lib.Seq.{getD-take, length-take-le}
 use lib.Dec.{eqb, ltb}
 use borrow.Author.Tests.{eqb-true, eqb-false, eq-eqb, ne-eqb, ltb-true, ltb-false, lt-ltb, le-ltb, not-true}
-use Rattle.record.specs.Call.{Call, create, exit, heapWrite, heapRead, sharedWrite, sharedRead, attest, check, protect, retrieve, report, handOver, chain}
+use Rattle.record.specs.Call.{Call, create, exit, heapWrite, heapRead, sharedWrite, sharedRead, attest, check, protect, retrieve, report, handOver, chain, release}
 use Rattle.record.specs.Read.{whole, read}
 use Rattle.ideal.specs.State.{State, caller, part, ownPart, any, every, sameBytes}
 use Rattle.ideal.specs.Step.{refusal, idle, beyond}
@@ -18,7 +18,7 @@ use Rattle.ideal.specs.Box.{Element, laid}
 use Rattle.ideal.specs.Layouts.{Sound}
 use Rattle.ideal.specs.Refusals.{callerIn, ownBytes, oneOf}
 use Rattle.ideal.specs.LevelOne.{isOther, loggedOther, levelOneRefusal, levelOneOn, holdsOther}
-use Rattle.ideal.specs.LevelOneDemands.{barring, UsesEscrow, in-protect, in-retrieve, in-chain, HighPlace, in-create, in-hand-over, OtherRow, LogsAnother, in-attest, ThreeNumbers}
+use Rattle.ideal.specs.LevelOneDemands.{barring, UsesEscrow, in-protect, in-retrieve, in-chain, in-release, HighPlace, in-create, in-hand-over, OtherRow, LogsAnother, in-attest, ThreeNumbers}
 use Rattle.lists.proofs.Bools.{by-cases, and-left, and-right, and-true, not-is, clash}
 use Rattle.lists.proofs.Lists.{same-bytes, same-bytes-refl, any-at, at-any}
 use Rattle.ideal.proofs.LevelOneNumbers.{other-rows}
@@ -69,6 +69,7 @@ unfolding barredWith
 escrow-from s in-protect = refl
 escrow-from s in-retrieve = refl
 escrow-from s in-chain = refl
+escrow-from s in-release = refl
 
 escrow-to : (s : State) (c : Call) → barredWith s c ≡ 21 → UsesEscrow c
 unfolding barredWith
@@ -85,6 +86,7 @@ escrow-to s (retrieve i o h) q = in-retrieve
 escrow-to s report q = absurd (omega arith)
 escrow-to s (handOver p) q = let x = is-22 _ _ 20 q .0 in absurd (omega arith)
 escrow-to s (chain w i x v) q = in-chain
+escrow-to s (release i h) q = in-release
 
 -- ---- 22
 
@@ -115,6 +117,7 @@ high-to s (handOver p) q =
     let n = eqb-false p 16 (not-true _ (and-right (ltb 3 p) _ (x .2))) in
     in-hand-over (ltb-true 3 p (and-left (ltb 3 p) _ (x .2))) (omega arith)
 high-to s (chain w i x v) q = absurd (omega arith)
+high-to s (release i h) q = absurd (omega arith)
 
 -- ---- 23
 
@@ -191,6 +194,7 @@ module _ (t : Tables) (size : ℕ) (h : Sound t size) where
   other-to report q = absurd (omega arith)
   other-to (handOver p) q = let x = is-22 _ _ 22 q .0 in absurd (omega arith)
   other-to (chain w i x v) q = absurd (omega arith)
+  other-to (release i a) q = absurd (omega arith)
 
   -- ---- the code
 

@@ -23,12 +23,15 @@ pub mod Laid
 pub mod SoundStates
 pub mod Fit
 pub mod More
+pub mod CloseUp
 pub mod Elements
 pub mod Accepts
+pub mod GivenUp
 pub mod Handles
 pub mod Kept
 pub mod Runs
 pub mod Numbers
+pub mod Left
 pub mod Past
 pub mod Hosted
 pub mod Histories
@@ -38,6 +41,7 @@ pub mod Logs
 pub mod Escrows
 pub mod Checks
 pub mod Retrieves
+pub mod Releases
 pub mod TwoEscrows
 pub mod Following
 pub mod Followed
@@ -50,6 +54,7 @@ pub mod FirstFree
 pub mod Demanded
 pub mod OneAnswer
 pub mod OneCalls
+pub mod Released
 pub mod FixedCalls
 pub mod FixedRuns
 pub mod FixedSecret

@@ -11,10 +11,14 @@ use Rattle.lists.proofs.Lists.{any-append, any-one}
 use Rattle.ideal.specs.State.{Entry, any, bytesUsed}
 use Rattle.ideal.specs.Soundness.{differ}
 
+pub bytes-append : {Key : Type 0} (l m : List (Entry Key)) → bytesUsed (l ++ m) ≡ bytesUsed l + bytesUsed m
+unfolding bytesUsed
+bytes-append [] m = omega arith
+bytes-append (q ∷ l) m = let h = bytes-append l m in omega arith
+
 pub bytes-more : {Key : Type 0} (l : List (Entry Key)) (e : Entry Key) → bytesUsed (l ++ (e ∷ [])) ≡ bytesUsed l + length (e .value)
 unfolding bytesUsed
-bytes-more [] e = omega arith
-bytes-more (q ∷ l) e = let h = bytes-more l e in omega arith
+bytes-more l e = let h = bytes-append l (e ∷ []) in omega arith
 
 -- one more that is unlike the others
 pub differ-more : {A : Type 0} (same : A → A → Bool) (l : List A) (a : A) → differ same l ≡ true

@@ -1,8 +1,8 @@
 -- The log holds what earlier accepted attests logged, and nothing else. Assumes nothing.
 use Prim.Native.Nat.{ℕ}
 use mathlib.Core.Path.{_≡_, refl, sym, _∙_}
-use mathlib.Core.Logic.{_↔_, _⊎_, inl, inr}
-use mathlib.Core.Bool.{true, not, _||_}
+use mathlib.Core.Logic.{_↔_}
+use mathlib.Core.Bool.{Bool, true, not, _||_}
 use mathlib.Core.List.{List}
 use lib.Dec.{eqb}
 use borrow.Author.Tests.{eqb-true, eq-eqb}
@@ -18,9 +18,9 @@ use Rattle.lists.proofs.Bools.{by-cases, and-left, and-right, and-true, or-nil}
 use Rattle.lists.proofs.Lists.{same-bytes, same-bytes-refl, any-append, any-one, every-at, any-at, at-any}
 use Rattle.ideal.specs.Valid.{Valid}
 use Rattle.ideal.proofs.Entries.{goodLogged, log-of}
-use Rattle.ideal.proofs.Does.{AttestPassed, attest-passed, Does, does-nothing, does-take, does-activate, does-empty, does-write, does-share, does-log, does-escrow}
+use Rattle.ideal.proofs.Does.{AttestPassed, attest-passed, Does, does-nothing, does-take, does-activate, does-empty, does-write, does-share, does-log, does-escrow, does-release}
 use Rattle.ideal.proofs.Runs.{stateBefore, valid-before, caller-before, own-before, accepted-at, accepts-at, Accepted, number-at}
-use Rattle.ideal.proofs.Since.{Fed, AddsAt, since}
+use Rattle.ideal.proofs.Since.{Effect, same, adds, Fed, AddsAt, since}
 
 data Attests (s : State) : Call → Type 0 where
   attests : {o n : ℕ} → AttestPassed s o n → Attests s (attest o n)
@@ -28,16 +28,24 @@ data Attests (s : State) : Call → Type 0 where
 entry : (s : State) (c : Call) → Attests s c → Logged
 entry s c (attests {o = o} {n = n} a) = pairOf (caller s) (ownPart s o n)
 
-others : {s : State} {c : Call} {m : Move} → Does s c m → (apply s m .log ≡ s .log) ⊎ Attests s c
+-- nothing that is logged ends
+abbrev Unlogs : State → Call → Type 0
+Unlogs s c = ⊥
+
+unlogged : (s : State) (c : Call) → Unlogs s c → Bool
+unlogged s c x = absurd x
+
+others : {s : State} {c : Call} {m : Move} → Does s c m → Effect (apply s m .log ≡ s .log) (Attests s c) (Unlogs s c)
 unfolding apply
-others does-nothing = inl refl
-others (does-take h z n) = inl refl
-others (does-activate h n) = inl refl
-others (does-empty h) = inl refl
-others (does-write w h f) = inl refl
-others (does-share f) = inl refl
-others (does-log a) = inr (attests a)
-others (does-escrow a) = inl refl
+others does-nothing = same refl
+others (does-take h z n) = same refl
+others (does-activate h n) = same refl
+others (does-empty h) = same refl
+others (does-write w h f) = same refl
+others (does-share f) = same refl
+others (does-log a) = adds (attests a)
+others (does-escrow a) = same refl
+others (does-release a) = same refl
 
 module _ (i : ℕ) (g : Tag) (v : List ℕ) where
   pub record IsLogged (r : Logged) : Type 0 where
@@ -96,11 +104,11 @@ module _ (i : ℕ) (g : Tag) (v : List ℕ) where
       (λ e. rw (e, any-append (isLogged i g v) (s .log), any-one (isLogged i g v)))
 
 module _ (es : List Element) (i : ℕ) (g : Tag) (v : List ℕ) where
-  fed : Fed Attests entry (isLogged i g v) (λ s. s .log)
+  fed : Fed Attests Unlogs entry unlogged (isLogged i g v) (λ s. s .log)
   unfolding any fresh
-  fed = record { empty = refl; others = others; more = more i g v }
+  fed = record { empty = refl; others = others; more = more i g v; less = λ s c x. absurd x }
 
-  logs-at : (k : ℕ) → AddsAt Attests entry (isLogged i g v) es k → LogsAt callOn es i v g k
+  logs-at : (k : ℕ) → AddsAt Attests Unlogs entry unlogged (isLogged i g v) es k → LogsAt callOn es i v g k
   unfolding entry number
   logs-at k x = at (x .call) (x .adds) (x .accepted) (x .passes)
     where
@@ -119,7 +127,7 @@ module _ (es : List Element) (i : ℕ) (g : Tag) (v : List ℕ) where
             gets = number-at es k (attest o n) (x .used) a ∙ q .tag;
           }
 
-  adds-at : (k : ℕ) → LogsAt callOn es i v g k → AddsAt Attests entry (isLogged i g v) es k
+  adds-at : (k : ℕ) → LogsAt callOn es i v g k → AddsAt Attests Unlogs entry unlogged (isLogged i g v) es k
   unfolding entry number
   adds-at k l =
       let o = l .offset in
@@ -142,4 +150,10 @@ module _ (es : List Element) (i : ℕ) (g : Tag) (v : List ℕ) where
   -- the log has the triple where an earlier accepted attest logged it
   pub logged-since : (k : ℕ) → (logged i g v (stateBefore es k .log) ≡ true) ↔ Earlier (LogsAt callOn es i v g) k
   unfolding logged
-  logged-since = since Attests entry (isLogged i g v) (λ s. s .log) fed es (LogsAt callOn es i v g) (λ k. (logs-at k, adds-at k))
+  logged-since k =
+      let x =
+      since Attests Unlogs entry unlogged (isLogged i g v) (λ s. s .log) fed es (LogsAt callOn es i v g) (λ _. ⊥)
+      (λ k. (logs-at k, adds-at k)) (λ k. (λ x. x .ends, λ x. absurd x)) k in (
+        λ h. let e = x .0 h in record { index = e .index; before = e .before; there = e .there },
+        λ e. x .1 (record { index = e .index; before = e .before; there = e .there; since = λ j l m q. q }),
+      )

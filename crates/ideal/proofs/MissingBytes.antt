@@ -167,7 +167,7 @@ module _ (t : Tables) (size : ℕ) where
   first-tested : (map kind : ℕ) (rest : List ℕ)
       → let bs : List ℕ = map ∷ kind ∷ rest in
       firstOf (conditions t (given bs))
-      ≡ tested (sizesRight t size && sound t) (stands map 0) (ltb 15 kind || oneOf (0 ∷ 2 ∷ 3 ∷ []) kind) (isMap map (mapOf kind)) (cutField bs)
+      ≡ tested (sizesRight t size && sound t) (stands map 0) (ltb 16 kind || oneOf (0 ∷ 2 ∷ 3 ∷ []) kind) (isMap map (mapOf kind)) (cutField bs)
       (firstOf (onCall t (read bs)))
   unfolding conditionsBy readerConditions firstOf tested
   first-tested map kind rest =

@@ -1,7 +1,7 @@
 -- One entry more in a table is the next row set, its value's bytes behind those used, and the counts raised; for the log and
 -- the escrow both. Assumes nothing.
 use Prim.Native.Nat.{ℕ, zero, suc, _+_, _-_, _≤_, _<_}
-use mathlib.Core.Path.{_≡_}
+use mathlib.Core.Path.{_≡_, refl, _∙_}
 use mathlib.Core.List.{List, [], _∷_, _++_, append-assoc, append-nil}
 use native.Mathlib.Omega.{arith}
 use native.Mathlib.Nat.{zero-add, add-zero}
@@ -45,19 +45,28 @@ padded-sets n m z v l e h =
 
 -- ---- entries
 
+pub values-append : {Key : Type 0} (l m : List (Entry Key)) → valuesOf (l ++ m) ≡ valuesOf l ++ valuesOf m
+unfolding valuesOf
+values-append [] m = refl
+values-append (r ∷ l) m = rw (values-append l m, append-assoc)
+
 values-more : {Key : Type 0} (l : List (Entry Key)) (e : Entry Key) → valuesOf (l ++ (e ∷ [])) ≡ valuesOf l ++ e .value
 unfolding valuesOf
-values-more [] e = append-nil (e .value)
-values-more (r ∷ l) e = rw (values-more l e, append-assoc)
+values-more l e = values-append l (e ∷ []) ∙ rw (append-nil (e .value))
+
+pub rows-append : {Row Key : Type 0} (t : RowsOf Row Key) (at : ℕ) (l m : List (Entry Key))
+    → rowsFrom t at (l ++ m) ≡ rowsFrom t at l ++ rowsFrom t (at + bytesUsed l) m
+unfolding rowsFrom bytesUsed
+rows-append t at [] m = rw (add-zero at)
+rows-append t at (r ∷ l) m =
+    let n = length (r .value) in
+    let k : (at + n) + bytesUsed l ≡ at + (n + bytesUsed l) = omega arith in
+    rw (rows-append t (at + n) l m, k)
 
 rows-more : {Row Key : Type 0} (t : RowsOf Row Key) (at : ℕ) (l : List (Entry Key)) (e : Entry Key)
     → rowsFrom t at (l ++ (e ∷ [])) ≡ rowsFrom t at l ++ (t .row (e .key) (at + bytesUsed l) (length (e .value)) ∷ [])
-unfolding rowsFrom bytesUsed
-rows-more t at [] e = rw (add-zero at)
-rows-more t at (r ∷ l) e =
-    let n = length (r .value) in
-    let k : (at + n) + bytesUsed l ≡ at + (n + bytesUsed l) = omega arith in
-    rw (rows-more t (at + n) l e, k)
+unfolding rowsFrom
+rows-more t at l e = rows-append t at l (e ∷ [])
 
 -- ---- a whole table
 

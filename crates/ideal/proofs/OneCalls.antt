@@ -1,34 +1,39 @@
 -- What one accepted call leaves and answers on any sound box. Assumes nothing.
 use Prim.Native.Nat.{ℕ, zero, suc, _+_, _*_, _-_, _^_, _≤_, _<_}
 use mathlib.Core.Path.{_≡_, refl, sym, ap, _∙_}
-use mathlib.Core.Bool.{false, not, cond}
-use mathlib.Core.List.{List, [], _∷_, _++_}
+use mathlib.Core.Bool.{true, false, not, cond}
+use mathlib.Core.List.{List, [], _∷_, _++_, map}
 use mathlib.Core.Option.{Option, none, some}
 use native.Mathlib.Omega.{arith}
 use lib.ListN.{length, getD, set}
 use lib.Dec.{eqb, ltb}
 use borrow.Author.Tests.{ltb-false, eqb-true, eqb-false, eq-eqb, ne-eqb, not-false}
 use Rattle.record.specs.declared.Handle.{Handle}
-use Rattle.record.specs.Call.{Call, create, exit, heapWrite, heapRead, sharedWrite, sharedRead, attest, check, protect, retrieve, report, handOver, chain}
+use Rattle.record.specs.Call.{Call, create, exit, heapWrite, heapRead, sharedWrite, sharedRead, attest, check, protect, retrieve, report, handOver, chain, release}
 use Rattle.record.specs.Read.{whole, read}
-use Rattle.ideal.specs.State.{Entry, Logged, Escrowed, State, cleared, identityAt, caller, ownPart, any, bytesUsed}
-use Rattle.ideal.specs.Step.{paired, full, withPair, pairOf, found, valueIn, protected, vacant, beyond, tests, refusal, move, apply, effect, number, shown, accepted}
-use Rattle.ideal.specs.Tables.{Tables, takenMap, boxRecord, tables, usedLog, stateOf}
+use Rattle.ideal.specs.State.{Entry, Logged, Escrowed, State, cleared, identityAt, caller, ownPart, any, position, bytesUsed}
+use Rattle.ideal.specs.Step.{paired, full, withPair, pairOf, isNamed, isEscrowed, spent, givenUp, found, valueIn, protected, vacant, beyond, tests, refusal, move, apply, effect, number, shown, accepted}
+use Rattle.ideal.specs.Tables.{Tables, takenMap, boxRecord, tables, usedLog, usedEscrow, stateOf}
 use Rattle.ideal.specs.Box.{Element, laid, callOn}
 use Rattle.ideal.specs.Valid.{Valid}
-use Rattle.ideal.specs.Refusals.{callerIn, holdsPair, lengthIn, rowFor}
+use Rattle.ideal.specs.Refusals.{callerIn, isRow, holdsPair, lengthIn, rowFor}
 use Rattle.ideal.specs.History.{ones}
-use Rattle.ideal.specs.OneCall.{withPlacesIn, withShared, withLogRow, withEscrowRow, leaves, countedNumber, shows, Done, OneCall}
-use Rattle.lists.proofs.Bools.{by-cases, and-other, not-is, or-false-left, or-false-right}
+use Rattle.ideal.specs.OneCall.{withPlacesIn, withShared, withLogRow, withEscrowRow, withReleased, leaves, countedNumber, shows, Done, OneCall}
+use Rattle.lists.proofs.Bools.{by-cases, and-left, and-other, not-is, or-false-left, or-false-right}
 use Rattle.ideal.proofs.Passing.{failed, passed}
-use Rattle.ideal.proofs.Does.{busy, own-size, AttestPassed, attest-passed, protect-passed}
+use Rattle.ideal.proofs.Does.{busy, own-size, AttestPassed, attest-passed, protect-passed, ReleasePassed, release-passed}
+use Rattle.ideal.proofs.Entries.{escrow-of}
+use Rattle.ideal.proofs.GivenUp.{given-among}
+use Rattle.ideal.proofs.CloseUp.{released-tables}
+use Rattle.lists.proofs.Lists.{Split, split}
+use Rattle.ideal.proofs.Unique.{present}
 use Rattle.ideal.proofs.Table.{log-lawful, escrow-lawful}
 use Rattle.ideal.proofs.Kept.{cleared-length}
 use Rattle.ideal.proofs.More.{row-added, value-added, counts-raised}
 use Rattle.ideal.proofs.Memory.{ones-taken}
 use Rattle.ideal.proofs.OwnHeap.{sized, own-bytes, own-written}
 use Rattle.ideal.proofs.HeapBytes.{flat-set}
-use Rattle.ideal.proofs.FoundRows.{pair-rows, found-row, value-found, log-found}
+use Rattle.ideal.proofs.FoundRows.{pair-rows, found-row, value-found, position-found, log-found}
 use Rattle.ideal.proofs.Links.{chain-count}
 use Rattle.ideal.proofs.Laid.{state-tables}
 use Rattle.ideal.proofs.Numbers.{each-number, refusals-alter-nothing}
@@ -80,7 +85,7 @@ module _ (s : State) where
   log-more e q r =
       rw (counts-raised (s .log) e, row-added log-lawful (s .log) e (r .rows), value-added (s .log) e (r .bytes), ← q)
 
-  escrow-more : (e : Escrowed) → e .key .source ≡ caller s → Room (s .escrow) (length (e .value))
+  escrow-more : (e : Escrowed) → e .key .source ≡ caller s → e .key .mark ≡ 0 → Room (s .escrow) (length (e .value))
       → tables (record {
         identities = s .identities;
         running = s .running;
@@ -91,14 +96,33 @@ module _ (s : State) where
       })
       ≡ withEscrowRow (tables s) (e .key .recipient) (e .key .handle .0) (e .value)
   unfolding tables boxRecord withEscrowRow
-  escrow-more e q r =
-      rw (counts-raised (s .escrow) e, row-added escrow-lawful (s .escrow) e (r .rows), value-added (s .escrow) e (r .bytes), ← q)
+  escrow-more e q m r =
+      rw (counts-raised (s .escrow) e, row-added escrow-lawful (s .escrow) e (r .rows), value-added (s .escrow) e (r .bytes), ← q, m)
 
 none-some : {n : ℕ} → _≡_ {A = Option ℕ} none (some n) → ⊥
 none-some q = let z : _≡_ {A = ℕ} 0 1 = cc in omega arith
 
 the-some : {m n : ℕ} → some m ≡ some n → m ≡ n
 the-some q = cc
+
+-- ---- a release
+
+-- the entry that a release names, among the others
+pub given : (s : State) (i : ℕ) (h : Handle) → Valid s → ReleasePassed s i h → Split (isEscrowed h i (caller s)) (s .escrow)
+unfolding found
+given s i h k a =
+    let p = isEscrowed h i (caller s) in
+    split p (s .escrow) (present p (s .escrow) (a .there))
+
+pub given-escrow : (s : State) (i : ℕ) (h : Handle) (k : Valid s) (a : ReleasePassed s i h)
+    → let g = given s i h k a in
+    map (givenUp h i (caller s)) (s .escrow) ≡ g .front ++ (spent (g .here) ∷ g .rest)
+given-escrow s i h k a =
+    let g = given s i h k a in
+    let named : isNamed h i (caller s) (g .here) ≡ true =
+    unfold isEscrowed in and-left (isNamed h i (caller s) (g .here)) _ (g .passes) in
+    ap (map (givenUp h i (caller s))) (g .is)
+    ∙ given-among h i (caller s) (g .front) (g .rest) (g .here) (rw (g .is) at (escrow-of k .apart)) named
 
 -- ---- what is left
 
@@ -128,6 +152,15 @@ module _ (s : State) (k : Valid s) where
       let map : takenMap (set (s .identities) (s .running) 0) ≡ takenMap (s .identities) - 2 ^ s .running = omega arith in
       rw (map, flat-set (s .heaps) (sized s k) (s .running) cleared (omega (arith, k .heaps)) cleared-length)
 
+  pub release-leaves : (i : ℕ) (h : Handle) → ReleasePassed s i h
+      → tables (effect s (release i h)) ≡ withReleased (tables s) (position (isRow h i (callerIn (tables s))) (usedEscrow (tables s)))
+  unfolding effect move apply
+  release-leaves i h a =
+      let g = given s i h k a in
+      let fits = rw (g .is) at (k .escrow .fits) in
+      let who : callerIn (tables s) ≡ caller s = unfold tables boxRecord in refl in
+      rw (who, position-found s i h, g .at, given-escrow s i h k a) (released-tables (g .front) (g .rest) (g .here) s (g .is) fits)
+
   leaves-is : (c : Call) → refusal s c ≡ 0 → tables (effect s c) ≡ leaves (tables s) (number s c) c
   unfolding effect move leaves refusal tests beyond
   leaves-is (create p i) r =
@@ -150,7 +183,7 @@ module _ (s : State) (k : Valid s) where
       let size = own-size s o n k (a .runs) (a .fits) in
       unfold apply number protected in
       rw (own-bytes s k (a .runs) o n (a .fits))
-      (escrow-more s (protected s i o n d) refl (rw size (room (s .escrow) n (k .escrow .few) (a .room))))
+      (escrow-more s (protected s i o n d) refl refl (rw size (room (s .escrow) n (k .escrow .few) (a .room))))
   leaves-is (retrieve i o h) r =
       rw (← value-found s i h)
       (own-written s k (busy s k (failed 3 _ _ r)) o (valueIn (found s i h))
@@ -158,6 +191,7 @@ module _ (s : State) (k : Valid s) where
   leaves-is report r = unfold apply in refl
   leaves-is (handOver p) r = unfold apply tables boxRecord withPlacesIn in refl
   leaves-is (chain w i x v) r = unfold apply in refl
+  leaves-is (release i h) r = release-leaves i h (release-passed s i h k r)
 
   -- ---- what is answered
 
@@ -183,6 +217,7 @@ module _ (s : State) (k : Valid s) where
   counted (retrieve i o h) n q = length-found i h ∙ the-some q
   counted report n q = counts ∙ the-some q
   counted (handOver p) n q = absurd (none-some q)
+  counted (release i h) n q = absurd (none-some q)
   counted (chain w i x v) n q =
       chain-count s (state-tables s k) 16 (record { way = w; identity = i; number = x }) v ∙ the-some q
 
@@ -203,6 +238,7 @@ module _ (s : State) (k : Valid s) where
   shows-is report r = refl
   shows-is (handOver p) r = refl
   shows-is (chain w i x v) r = refl
+  shows-is (release i h) r = refl
 
 -- ---- the promise, of the definition
 

@@ -1,15 +1,17 @@
 -- Two boxes that are as one past says are the same. Assumes nothing.
 use Prim.Native.Nat.{ℕ, _+_, _*_, _/_, _%_, _<_}
 use mathlib.Core.Path.{_≡_, sym, ap, _∙_}
-use mathlib.Core.List.{List, []}
+use mathlib.Core.Bool.{Bool}
+use mathlib.Core.List.{List, [], map}
 use native.Mathlib.Omega.{arith}
-use lib.ListN.{getD}
+use lib.ListN.{getD, length-map, List·getD-map}
 use lib.Seq.{ext-getD, getD-take}
 use Rattle.ideal.specs.declared.LogRow.{LogRow}
 use Rattle.ideal.specs.declared.EscrowRow.{EscrowRow}
 use Rattle.ideal.specs.State.{Logged, Escrowed, Move}
 use Rattle.ideal.specs.Tables.{Tables, logTable, escrowTable, entryOf, entriesOf, chunks, usedLog, usedEscrow, tables, stateOf}
 use Rattle.ideal.specs.History.{byteAt, pairs, protects, LogHolds, EscrowHolds, AsThePast}
+use Rattle.ideal.proofs.Left.{leftBy, left}
 use Rattle.ideal.proofs.Table.{log-lawful, escrow-lawful, entries-length, entry-count}
 use Rattle.ideal.proofs.Facts.{Facts, facts}
 use Rattle.ideal.proofs.Hosted.{entry-at}
@@ -20,10 +22,12 @@ use Rattle.ideal.proofs.Laid.{tables-state}
 log-entry : {values : List ℕ} {r : LogRow} {e : Logged} → LogHolds values r e → entryOf logTable values r ≡ e
 log-entry h = λ i. record { key = record { identity = h .identity i; tag = h .tag i }; value = h .value i }
 
-escrow-entry : {values : List ℕ} {r : EscrowRow} {e : Escrowed} → EscrowHolds values r e → entryOf escrowTable values r ≡ e
+escrow-entry : {values : List ℕ} {r : EscrowRow} {e : Escrowed} {b : Bool} → EscrowHolds values r e b
+    → entryOf escrowTable values r ≡ leftBy b e
+unfolding leftBy
 escrow-entry h = λ i.
     record {
-      key = record { source = h .source i; recipient = h .recipient i; handle = h .handle i };
+      key = record { source = h .source i; recipient = h .recipient i; handle = h .handle i; mark = h .mark i };
       value = h .value i;
     }
 
@@ -42,16 +46,16 @@ module _ {t : Tables} {past : List Move} (a : AsThePast t past) where
       ∙ ap (entryOf logTable (t .logValues)) (getD-take (t .box .log .rows) (t .logRows) k (logTable .blank) (omega arith))
       ∙ log-entry (a .log k d (omega arith))
 
-  escrow-is : entriesOf escrowTable (t .escrowValues) (usedEscrow t) ≡ protects past
+  escrow-is : entriesOf escrowTable (t .escrowValues) (usedEscrow t) ≡ map (left past) (protects past)
   escrow-is =
       let d = entryOf escrowTable [] (escrowTable .blank) in
       let n = entry-count escrow-lawful (facts-of .escrow) in
       let m = entries-length escrow-lawful (t .escrowValues) (usedEscrow t) in
       let c = a .escrowRows in
-      ext-getD d _ _ (n ∙ c) λ k b.
-      entry-at escrowTable (t .escrowValues) (usedEscrow t) d (escrowTable .blank) k (omega arith)
+      ext-getD (left past d) _ _ (n ∙ c ∙ sym (length-map (protects past) (left past))) λ k b.
+      entry-at escrowTable (t .escrowValues) (usedEscrow t) (left past d) (escrowTable .blank) k (omega arith)
       ∙ ap (entryOf escrowTable (t .escrowValues)) (getD-take (t .box .escrow .rows) (t .escrowRows) k (escrowTable .blank) (omega arith))
-      ∙ escrow-entry (a .escrow k d (omega arith))
+      ∙ escrow-entry (a .escrow k d (omega arith)) ∙ sym (List·getD-map (left past) (protects past) k d)
 
   heap-byte : (x : ℕ) → x < 4096 → getD (t .heaps) x 0 ≡ byteAt past (x / 256) (x % 256)
   heap-byte x b =

@@ -3,7 +3,7 @@ use Prim.Native.Nat.{ℕ}
 use mathlib.Core.Path.{_≡_, refl}
 use mathlib.Core.Bool.{Bool, true, false, not, _&&_, _||_, cond}
 use lib.Dec.{eqb, ltb}
-use Rattle.record.specs.Call.{Call, create, exit, heapWrite, heapRead, sharedWrite, sharedRead, attest, check, protect, retrieve, report, handOver, chain}
+use Rattle.record.specs.Call.{Call, create, exit, heapWrite, heapRead, sharedWrite, sharedRead, attest, check, protect, retrieve, report, handOver, chain, release}
 use Rattle.ideal.specs.State.{State, any}
 use Rattle.ideal.specs.Step.{firstHolding, idle, beyond, tests, refusal}
 use Rattle.ideal.specs.Refusals.{oneOf}
@@ -34,6 +34,7 @@ barredWith s (retrieve i o h) = 21
 barredWith s report = 0
 barredWith s (handOver p) = then22 (ltb 16 p) (ltb 3 p && not (eqb p 16))
 barredWith s (chain w i x v) = 21
+barredWith s (release i h) = 21
 
 -- level one's own refusal, where a call has one, else the full box's
 pub level-one : (s : State) (c : Call) → levelOneRefusal s c ≡ cond (eqb (barredWith s c) 0) (refusal s c) (barredWith s c)
@@ -56,6 +57,7 @@ level-one s (handOver p) =
     by-cases (ltb 16 p) (λ h. rw h)
     (λ h. by-cases (ltb 3 p && not (eqb p 16)) (λ k. rw (h, k)) (λ k. rw (h, k)))
 level-one s (chain w i x v) = refl
+level-one s (release i h) = refl
 
 -- it is one of the three, if any
 none-or-barring : (s : State) (c : Call) → eqb (barredWith s c) 0 || barring (barredWith s c) ≡ true
@@ -78,6 +80,7 @@ none-or-barring s (handOver p) =
     by-cases (ltb 16 p) (λ h. rw h)
     (λ h. by-cases (ltb 3 p && not (eqb p 16)) (λ k. rw (h, k)) (λ k. rw (h, k)))
 none-or-barring s (chain w i x v) = refl
+none-or-barring s (release i h) = refl
 
 pub barred-is : (s : State) (c : Call) → eqb (barredWith s c) 0 ≡ false → barring (barredWith s c) ≡ true
 barred-is s c h = rw h at (none-or-barring s c)

@@ -93,7 +93,7 @@ module _ (all : List ℕ) (p : ℕ × ℕ) where
 
 -- as readerConditions has it
 abbrev noKind : ℕ → Bool
-noKind n = ltb 15 n || oneOf (0 ∷ 2 ∷ 3 ∷ []) n
+noKind n = ltb 16 n || oneOf (0 ∷ 2 ∷ 3 ∷ []) n
 
 unlisted : Option Kind → Bool
 unlisted none = true
@@ -154,12 +154,12 @@ below-at p (suc n) k h l =
     (λ e. rw (eqb-true k n e) (and-left (p n) _ h))
     (λ e. below-at p n k (and-right (p n) _ h) (omega (arith, eqb-false k n e)))
 
-among-high : (n : ℕ) (ks : List Kind) → every (λ k. leb (k .number) 15) ks ≡ true → 15 < n → among ks n ≡ none
+among-high : (n : ℕ) (ks : List Kind) → every (λ k. leb (k .number) 16) ks ≡ true → 16 < n → among ks n ≡ none
 unfolding every among
 among-high n [] h l = refl
 among-high n (k ∷ ks) h l =
-    let g = leb-true (k .number) 15 (and-left (leb (k .number) 15) _ h) in
-    rw (ne-eqb (k .number) n (λ e. omega arith), among-high n ks (and-right (leb (k .number) 15) _ h) l)
+    let g = leb-true (k .number) 16 (and-left (leb (k .number) 16) _ h) in
+    rw (ne-eqb (k .number) n (λ e. omega arith), among-high n ks (and-right (leb (k .number) 16) _ h) l)
 
 same : (a b : Bool) → Bool·beq a b ≡ true → a ≡ b
 same true true h = refl
@@ -167,13 +167,13 @@ same true false h = absurd (false≢true h)
 same false true h = absurd (false≢true h)
 same false false h = refl
 
--- no kind has the number 0, 2 or 3, or one above 15
+-- no kind has the number 0, 2 or 3, or one above 16
 kinds-listed : (n : ℕ) → unlisted (kindOf n) ≡ noKind n
 unfolding unlisted kindOf kinds below among every oneOf any
 kinds-listed n =
-    by-cases (ltb 15 n)
-    (λ h. let l : 15 < n = omega (arith, ltb-true) in rw (h, among-high n kinds refl l))
-    (λ h. same _ _ (below-at (λ k. Bool·beq (unlisted (kindOf k)) (noKind k)) 16 n refl (omega (arith, ltb-false))))
+    by-cases (ltb 16 n)
+    (λ h. let l : 16 < n = omega (arith, ltb-true) in rw (h, among-high n kinds refl l))
+    (λ h. same _ _ (below-at (λ k. Bool·beq (unlisted (kindOf k)) (noKind k)) 17 n refl (omega (arith, ltb-false))))
 
 -- ---- the reader
 

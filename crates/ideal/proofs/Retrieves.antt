@@ -18,17 +18,17 @@ use Rattle.ideal.specs.Tables.{tables}
 use Rattle.ideal.specs.Soundness.{sameHandle}
 use Rattle.ideal.specs.Box.{Element, callOn, elementAt, tablesBefore, answerAt}
 use Rattle.ideal.specs.Refusals.{ownBytes}
-use Rattle.ideal.specs.Accuracy.{ProtectsAt, Sized, Runs, ProtectedBefore, HandsOut, RetrieveAt, withOwnBytes, RetrieveIsAccurate}
-use Rattle.lists.proofs.Bools.{by-cases, and-left, and-assoc}
+use Rattle.ideal.specs.Accuracy.{ProtectsAt, Sized, Runs, HeldBefore, HandsOut, RetrieveAt, withOwnBytes, RetrieveIsAccurate}
+use Rattle.lists.proofs.Bools.{by-cases, and-left}
 use Rattle.lists.proofs.Lists.{same-bytes, same-bytes-refl}
 use Rattle.ideal.specs.Valid.{Valid}
 use Rattle.ideal.proofs.Unique.{finds, found-any}
 use Rattle.ideal.proofs.Entries.{escrow-of}
-use Rattle.ideal.proofs.Kept.{any-same}
 use Rattle.ideal.proofs.OwnHeap.{own-written, written-stands}
 use Rattle.ideal.proofs.Runs.{stateBefore, valid-before, tables-before, running-before, caller-before, own-before, sized-at, code-at, accepted-at, accepts-at, Accepted, number-at, state-after}
 use Rattle.ideal.proofs.Does.{busy, protect-passed}
 use Rattle.ideal.proofs.Escrows.{isHeld, held-since}
+use Rattle.ideal.proofs.GivenUp.{is-named}
 use Rattle.ideal.proofs.Checks.{same-cond}
 
 -- ---- what a retrieve finds
@@ -43,22 +43,14 @@ like : (h : Handle) (i r : ℕ) (a b : Escrowed) → isEscrowed h i r a ≡ true
     → sameHandle a b ≡ true
 unfolding isEscrowed sameHandle hasHandle
 like h i r a b x y =
-    let m = eqb-true (a .key .handle .0) (h .0) (and-left _ _ x) in
-    let n = eqb-true (b .key .handle .0) (h .0) (and-left _ _ y) in
-    eq-eqb _ _ (n ∙ sym m)
-
--- what it looks for, with this value, is what the escrow holds for it
-sought-held : (h : Handle) (i r : ℕ) (v : List ℕ) (l : List Escrowed)
-    → any (λ e. isEscrowed h i r e && sameBytes (e .value) v) l ≡ any (isHeld h i r v) l
-unfolding isEscrowed isHeld
-sought-held h i r v l =
-    any-same _ _ l
-    (λ e. and-assoc (eqb (e .key .handle .0) (h .0)) _ _ ∙ ap (λ b. eqb (e .key .handle .0) (h .0) && b) (and-assoc (eqb (e .key .source) i) _ _))
+    let m = is-named h i r a (and-left _ _ x) in
+    let n = is-named h i r b (and-left _ _ y) in
+    eq-eqb _ _ (n .handle ∙ sym (m .handle))
 
 held-found : (s : State) (i : ℕ) (h : Handle) (v : List ℕ) → Valid s
     → (any (isHeld h i (caller s) v) (s .escrow) ≡ true) ↔ Finds s i h v
-unfolding found
-held-found s i h v valid = rw (← sought-held h i (caller s) v (s .escrow)) (to, from)
+unfolding found isHeld isEscrowed
+held-found s i h v valid = (to, from)
   where
     p : Escrowed → Bool
     p = isEscrowed h i (caller s)
@@ -74,9 +66,9 @@ held-found s i h v valid = rw (← sought-held h i (caller s) v (s .escrow)) (to
     from : Finds s i h v → any (λ e. p e && q e) (s .escrow) ≡ true
     from f = found-any p q (s .escrow) (f .entry) (f .is) (rw (f .value) (same-bytes-refl v))
 
--- it is found where an earlier accepted protect escrowed it for the running program
+-- it is found where an earlier accepted protect escrowed it for the running program, which has not released it since
 pub found-since : (es : List Element) (k i : ℕ) (h : Handle) (v : List ℕ)
-    → Finds (stateBefore es k) i h v ↔ ProtectedBefore callOn es k i h v
+    → Finds (stateBefore es k) i h v ↔ HeldBefore callOn es k i h v
 found-since es k i h v =
     let held = held-found (stateBefore es k) i h v (valid-before es k) in
     let since = held-since es h i (caller (stateBefore es k)) v k in
@@ -101,36 +93,69 @@ idle-caller s valid e =
     let n = eqb-true (s .running) 16 e in
     List·getD-eq-default (s .identities) 0 (omega (arith, valid .places))
 
-module _ (s : State) (i o : ℕ) (h : Handle) where
-  -- a program runs, and the source is named
-  record Ready : Type 0 where
-    runs : idle s ≡ false
-    named : i ≡ 0 → ⊥
+-- a program runs, and the source is named
+pub record Ready (s : State) (i : ℕ) : Type 0 where
+  pub runs : idle s ≡ false
+  pub named : i ≡ 0 → ⊥
 
-  was-ready : (n : ℕ) → refusal s (retrieve i o h) ≡ n → (n ≡ 4 → ⊥) → (n ≡ 9 → ⊥) → Ready
+-- it then finds nothing, or something
+pub data Sought (s : State) (i : ℕ) (h : Handle) : Type 0 where
+  nothing : found s i h ≡ none → Sought s i h
+  something : (v : List ℕ) → Finds s i h v → Sought s i h
+
+pub sought : (s : State) (i : ℕ) (h : Handle) → Sought s i h
+sought s i h = at (found s i h) refl
+  where
+    at : (f : Option Escrowed) → found s i h ≡ f → Sought s i h
+    at none e = nothing e
+    at (some x) e = something (x .value) (record { entry = x; is = e; value = refl })
+
+module _ (es : List Element) (k i : ℕ) (h : Handle) where
+  pub ready : (v : List ℕ) → HeldBefore callOn es k i h v → Ready (stateBefore es k) i
+  ready v x =
+      let s = stateBefore es k in
+      let n = protects-named es (x .index) i _ h v (x .there) in
+      record {
+        runs = by-cases (idle s)
+            (λ t. absurd (n .recipient (caller-before es k ∙ idle-caller s (valid-before es k) t))) (λ f. f);
+        named = n .source;
+      }
+
+  pub nowhere : ((v : List ℕ) → HeldBefore callOn es k i h v → ⊥) → found (stateBefore es k) i h ≡ none
+  nowhere n =
+      elim (sought (stateBefore es k) i h) [
+        | nothing e ↦ e
+        | something v f ↦ absurd (n v (found-since es k i h v .0 f))
+      ]
+
+  pub unheld : found (stateBefore es k) i h ≡ none → (v : List ℕ) → HeldBefore callOn es k i h v → ⊥
+  unheld e v x =
+      let f = found-since es k i h v .1 x in
+      let q : some (f .entry) ≡ none = sym (f .is) ∙ e in
+      let y : _≡_ {A = ℕ} 0 1 = cc in
+      omega arith
+
+  pub is-ready : Runs callOn es k → (i ≡ 0 → ⊥) → Ready (stateBefore es k) i
+  unfolding idle
+  is-ready r n = record { runs = ne-eqb (stateBefore es k .running) 16 (λ e. r (running-before es k ∙ e)); named = n }
+
+  pub runs-there : Ready (stateBefore es k) i → Runs callOn es k
+  unfolding idle
+  runs-there r e = eqb-false (stateBefore es k .running) 16 (r .runs) (sym (running-before es k) ∙ e)
+
+module _ (s : State) (i o : ℕ) (h : Handle) where
+  was-ready : (n : ℕ) → refusal s (retrieve i o h) ≡ n → (n ≡ 4 → ⊥) → (n ≡ 9 → ⊥) → Ready s i
   unfolding refusal tests firstHolding
   was-ready n e four nine =
       let r : idle s ≡ false = by-cases (idle s) (λ t. absurd (four (sym e ∙ rw t))) (λ f. f) in
       record { runs = r; named = λ z. nine (sym e ∙ rw (r, eq-eqb i 0 z)) }
 
-  -- it then finds nothing, or what does or does not fit
-  data Sought : Type 0 where
-    nothing : found s i h ≡ none → Sought
-    something : (v : List ℕ) → Finds s i h v → Sought
-
-  sought : Sought
-  sought = at (found s i h) refl
-    where
-      at : (f : Option Escrowed) → found s i h ≡ f → Sought
-      at none e = nothing e
-      at (some x) e = something (x .value) (record { entry = x; is = e; value = refl })
-
-  absent-refusal : Ready → found s i h ≡ none → refusal s (retrieve i o h) ≡ 10
+  absent-refusal : Ready s i → found s i h ≡ none → refusal s (retrieve i o h) ≡ 10
   unfolding refusal tests firstHolding absent
   absent-refusal r e = rw (r .runs, ne-eqb i 0 (r .named), e)
 
   module _ (v : List ℕ) (f : Finds s i h v) where
-    found-refusal : Ready → refusal s (retrieve i o h) ≡ cond (ltb 256 (o + length v)) 11 0
+    found-refusal : Ready s i → refusal s (retrieve i o h) ≡ cond (ltb 256 (o + length v)) 11 0
     unfolding refusal tests firstHolding absent valueIn beyond
     found-refusal r = rw (r .runs, ne-eqb i 0 (r .named), f .is, f .value)
 
@@ -150,16 +175,7 @@ module _ (es : List Element) (k i o : ℕ) (h : Handle) (used : ℕ)
   abbrev c : Call
   c = retrieve i o h
 
-  ready : (v : List ℕ) → ProtectedBefore callOn es k i h v → Ready s i o h
-  ready v x =
-      let n = protects-named es (x .index) i _ h v (x .there) in
-      record {
-        runs = by-cases (idle s)
-            (λ t. absurd (n .recipient (caller-before es k ∙ idle-caller s (valid-before es k) t))) (λ f. f);
-        named = n .source;
-      }
-
-  hands : (v : List ℕ) → Accepted s (elementAt es k) c used → Ready s i o h → Finds s i h v → o + length v ≤ 256
+  hands : (v : List ℕ) → Accepted s (elementAt es k) c used → Ready s i → Finds s i h v → o + length v ≤ 256
       → HandsOut callOn es o v k
   unfolding apply
   hands v a r f fits =
@@ -176,7 +192,7 @@ module _ (es : List Element) (k i o : ℕ) (h : Handle) (used : ℕ)
             ∙ ap (λ x. withOwnBytes x o v) (sym (tables-before es k));
       }
 
-  accept : (v : List ℕ) → Sized callOn es k → Ready s i o h → Finds s i h v → o + length v ≤ 256
+  accept : (v : List ℕ) → Sized callOn es k → Ready s i → Finds s i h v → o + length v ≤ 256
       → Accepted s (elementAt es k) c used
   accept v z r f fits =
       record { sized = z; reads = reads; passes = found-refusal s i o h v f r ∙ rw (le-ltb 256 (o + length v) fits) }
@@ -187,16 +203,16 @@ module _ (es : List Element) (k i o : ℕ) (h : Handle) (used : ℕ)
     finds : Finds s i h value
     fits : o + length value ≤ 256
 
-  got : Ready s i o h → refusal s c ≡ 0 → Got
+  got : Ready s i → refusal s c ≡ 0 → Got
   got r p =
-      elim (sought s i o h) [
+      elim (sought s i h) [
         | nothing e ↦ let q = sym (absent-refusal s i o h r e) ∙ p in absurd (omega arith)
         | something v f ↦ let q = sym (found-refusal s i o h v f r) ∙ p in
             record { value = v; finds = f; fits = ltb-false 256 _ (same-cond 10 _ false q) }
       ]
 
   there : (v : List ℕ) → HandsOut callOn es o v k
-      → Sized callOn es k × ProtectedBefore callOn es k i h v × (o + length v ≤ 256)
+      → Sized callOn es k × HeldBefore callOn es k i h v × (o + length v ≤ 256)
   there v x =
       let a = accepted-at es k c used reads (x .accepts .0) in
       let r = was-ready s i o h 0 (a .passes) (λ e. omega arith) (λ e. omega arith) in
@@ -206,14 +222,14 @@ module _ (es : List Element) (k i o : ℕ) (h : Handle) (used : ℕ)
       let q : g .value ≡ v = sym (u .stands) ∙ ap (ownBytes (tablesBefore callOn es (suc k)) o) n ∙ x .stands in
       (a .sized, rw q at (found-since es k i h (g .value) .0 (g .finds)), rw n at (g .fits))
 
-  back : (v : List ℕ) → Sized callOn es k × ProtectedBefore callOn es k i h v × (o + length v ≤ 256)
+  back : (v : List ℕ) → Sized callOn es k × HeldBefore callOn es k i h v × (o + length v ≤ 256)
       → HandsOut callOn es o v k
   back v x =
       let f = found-since es k i h v .1 (x .1) in
-      let r = ready v (x .1) in
+      let r = ready es k i h v (x .1) in
       hands v (accept v (x .0) r f (x .2)) r f (x .2)
 
-  one-value : (v w : List ℕ) → ProtectedBefore callOn es k i h v → ProtectedBefore callOn es k i h w → v ≡ w
+  one-value : (v w : List ℕ) → HeldBefore callOn es k i h v → HeldBefore callOn es k i h w → v ≡ w
   one-value v w x y =
       let f = found-since es k i h v .1 x in
       let g = found-since es k i h w .1 y in
@@ -223,49 +239,32 @@ module _ (es : List Element) (k i o : ℕ) (h : Handle) (used : ℕ)
 
   -- what 10 says
   record NotThere : Type 0 where
-    ready : Ready s i o h
+    ready : Ready s i
     nothing : found s i h ≡ none
 
   ten : refusal s c ≡ 10 → NotThere
   ten p =
       let r = was-ready s i o h 10 p (λ e. omega arith) (λ e. omega arith) in
-      elim (sought s i o h) [
+      elim (sought s i h) [
         | nothing e ↦ record { ready = r; nothing = e }
         | something v f ↦ let q = sym (found-refusal s i o h v f r) ∙ p in
             absurd (by-cases (ltb 256 (o + length v)) (λ t. let n = rw t at q in omega arith)
             (λ t. let n = rw t at q in omega arith))
       ]
 
-  nowhere : ((v : List ℕ) → ProtectedBefore callOn es k i h v → ⊥) → found s i h ≡ none
-  nowhere n =
-      elim (sought s i o h) [
-        | nothing e ↦ e
-        | something v f ↦ absurd (n v (found-since es k i h v .0 f))
-      ]
-
   not-there : (answerAt callOn es k .code ≡ 10)
-      ↔ (Sized callOn es k × Runs callOn es k × (i ≡ 0 → ⊥) × ((v : List ℕ) → ProtectedBefore callOn es k i h v → ⊥))
-  unfolding idle
+      ↔ (Sized callOn es k × Runs callOn es k × (i ≡ 0 → ⊥) × ((v : List ℕ) → HeldBefore callOn es k i h v → ⊥))
   not-there = (
     λ p. let z = sized-at es k (λ e. let n = sym p ∙ e in omega arith) in
-        let t = ten (sym (code-at es k c used reads z) ∙ p) in (
-          z,
-          λ e. eqb-false (s .running) 16 (t .ready .runs) (sym (running-before es k) ∙ e),
-          t .ready .named,
-          λ v x. let f = found-since es k i h v .1 x in
-              let q : some (f .entry) ≡ none = sym (f .is) ∙ t .nothing in
-              let y : _≡_ {A = ℕ} 0 1 = cc in omega arith,
-        ),
-    λ p. code-at es k c used reads (p .0)
-        ∙ absent-refusal s i o h
-        (record { runs = ne-eqb (s .running) 16 (λ e. p .1 (running-before es k ∙ e)); named = p .2 })
-        (nowhere (p .3)),
+        let t = ten (sym (code-at es k c used reads z) ∙ p) in
+        (z, runs-there es k i h (t .ready), t .ready .named, unheld es k i h (t .nothing)),
+    λ p. code-at es k c used reads (p .0) ∙ absent-refusal s i o h (is-ready es k i h (p .1) (p .2)) (nowhere es k i h (p .3)),
   )
 
-  too-far : (v : List ℕ) → ProtectedBefore callOn es k i h v
+  too-far : (v : List ℕ) → HeldBefore callOn es k i h v
       → (answerAt callOn es k .code ≡ 11) ↔ (Sized callOn es k × (256 < o + length v))
   too-far v x =
-      let q = found-refusal s i o h v (found-since es k i h v .1 x) (ready v x) in (
+      let q = found-refusal s i o h v (found-since es k i h v .1 x) (ready es k i h v x) in (
         λ p. let z = sized-at es k (λ e. let n = sym p ∙ e in omega arith) in
             (z, ltb-true 256 _ (same-cond 10 _ true (sym q ∙ sym (code-at es k c used reads z) ∙ p))),
         λ p. code-at es k c used reads (p .0) ∙ q ∙ rw (lt-ltb 256 (o + length v) (p .1)),

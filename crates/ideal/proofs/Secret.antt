@@ -10,7 +10,7 @@ use lib.Dec.{eqb, ltb}
 use borrow.Author.Tests.{eqb-true, ltb-true, ltb-false, not-false}
 use Rattle.record.specs.declared.Handle.{Handle}
 use Rattle.record.specs.declared.Draw.{Draw}
-use Rattle.record.specs.Call.{Call, create, exit, heapWrite, heapRead, sharedWrite, sharedRead, attest, check, protect, retrieve, report, handOver, chain}
+use Rattle.record.specs.Call.{Call, create, exit, heapWrite, heapRead, sharedWrite, sharedRead, attest, check, protect, retrieve, report, handOver, chain, release}
 use Rattle.record.specs.Read.{Reading, refused, whole, read}
 use Rattle.record.specs.Write.{filled}
 use Rattle.ideal.specs.State.{EscrowKey, Escrowed, State, fresh, identityAt, caller, part, ownPart}
@@ -29,7 +29,7 @@ use Rattle.ideal.proofs.Hosted.{heap-is, escrowed-is}
 use Rattle.ideal.proofs.OwnHeap.{own-bytes}
 use Rattle.ideal.proofs.Following.{at-first, SameChain, same-chain}
 use Rattle.ideal.proofs.TwoEscrows.{SameFound, same-absent, SameEntry, SameEscrow, no-entries, entry, same-count, same-bytes-used, same-at, same-full, same-handle}
-use Rattle.ideal.proofs.TwoStates.{Secrets, SameBut, same-state, AlikeCalls, same-call, other-call, NoneTold, same-caller, same-idle, same-vacant, same-size, same-found, same-own, SameMove, same-nothing, same-take, same-activate, same-empty, same-write, same-share, same-log, same-escrows, same-apply}
+use Rattle.ideal.proofs.TwoStates.{Secrets, SameBut, same-state, AlikeCalls, same-call, other-call, NoneTold, same-caller, same-idle, same-vacant, same-size, same-found, same-own, SameMove, same-nothing, same-take, same-activate, same-empty, same-write, same-share, same-log, same-escrows, same-releases, same-apply}
 use Rattle.ideal.proofs.TwoRuns.{Preserved, Stepped, secrecy-of}
 
 -- ---- one call on two states that differ in secrets alone
@@ -71,7 +71,7 @@ module _ (z : Secrets) {s t : State} (k : SameBut z s t) where
   unfolding protected
   accepted-protect i o n d a r =
       record {
-        key = λ m. record { source = same-caller z k m; recipient = i; handle = same-handle (z .value) n d (k .escrow) m };
+        key = λ m. record { source = same-caller z k m; recipient = i; handle = same-handle (z .value) n d (k .escrow) m; mark = 0 };
         size = same-size z k o n;
         value = λ e.
             by-cases (z .heap (s .running) (caller s)) (λ g. a .protects g i o n d refl e r) (λ g. same-own z k o n g);
@@ -158,6 +158,8 @@ module _ (z : Secrets) {s t : State} (k : SameBut z s t) where
       plain refl (rw (k .identities, k .log, same-count (z .value) (k .escrow))) refl (λ r. same-nothing)
   same-in-both (same-call (handOver p)) a = plain (rw (same-vacant z k p)) refl refl (λ r. same-activate)
   same-in-both (same-call (chain w i x v)) a = same-chain-call w i x v a
+  same-in-both (same-call (release i h)) a =
+      plain (rw (same-idle z k, same-found z k i h .absent)) refl refl (λ r. same-releases (same-caller z k))
   same-in-both (other-call p o v w g n) a =
       plain (rw (same-idle z k, k .running, n)) n refl (λ r. same-write (k .running) n (λ h. clash _ g h))
 
@@ -197,6 +199,7 @@ still s n report u e = absurd (false≢true e)
 still s n (handOver p) u e = absurd (false≢true e)
 still s zero (chain w i x v) u e = (refl, refl, refl)
 still s (suc n) (chain w i x v) u e = (refl, refl, refl)
+still s n (release i h) u e = absurd (false≢true e)
 
 module _ (z : Secrets) {s t : State} (k : SameBut z s t) where
   both-refuse : (r : Reading) (code number used : ℕ) → Both z s r (refuse s code number used) (refuse t code number used)
@@ -335,7 +338,7 @@ module _ (G : ℕ → Bool) {s t : State} (k : SameBut (held G) s t) (v : Valid 
 -- ---- the tables of both states
 
 no-entry : Escrowed
-no-entry = record { key = record { source = 0; recipient = 0; handle = record { 0 = 0 } }; value = [] }
+no-entry = record { key = record { source = 0; recipient = 0; handle = record { 0 = 0 }; mark = 0 }; value = [] }
 
 same-rows : (secret : EscrowKey → Bool) (at : ℕ) {l m : List Escrowed} → SameEscrow secret l m
     → rowsFrom escrowTable at l ≡ rowsFrom escrowTable at m

@@ -281,7 +281,9 @@ escrow-lawful =
           let b = eqb-true (r .recipient) 0 (and-left (eqb (r .recipient) 0) _ h₁) in
           let c = eqb-true (r .handle .0) 0 (and-left (eqb (r .handle .0) 0) _ h₂) in
           let d = eqb-true (r .first) 0 (and-left (eqb (r .first) 0) _ h₃) in
-          let e = eqb-true (r .length) 0 (and-right (eqb (r .first) 0) _ h₃) in
-          λ i. record { source = a i; recipient = b i; handle = record { 0 = c i }; first = d i; length = e i };
+          let h₄ = and-right (eqb (r .first) 0) _ h₃ in
+          let e = eqb-true (r .length) 0 (and-left (eqb (r .length) 0) _ h₄) in
+          let f = eqb-true (r .mark) 0 (and-right (eqb (r .length) 0) _ h₄) in
+          λ i. record { source = a i; recipient = b i; handle = record { 0 = c i }; first = d i; length = e i; mark = f i };
       is-blank = refl;
     }

@@ -2,7 +2,7 @@
 use Prim.Native.Nat.{ℕ, zero, suc}
 use mathlib.Core.Path.{_≡_, refl, sym, ap}
 use mathlib.Core.Bool.{Bool, true, false, false≢true}
-use mathlib.Core.List.{List, [], _∷_, _++_}
+use mathlib.Core.List.{List, [], _∷_, _++_, map}
 use mathlib.Core.Option.{Option, none, some}
 use lib.ListN.{length, getD}
 use lib.Dec.{eqb}
@@ -10,7 +10,7 @@ use borrow.Author.Tests.{eqb-true}
 use Rattle.record.specs.declared.Handle.{Handle}
 use Rattle.record.specs.declared.Draw.{Draw}
 use Rattle.ideal.specs.State.{EscrowKey, Escrowed, any, find, bytesUsed}
-use Rattle.ideal.specs.Step.{full, isEscrowed, absent, valueIn, hasHandle, handleOf, next, freeFrom, freeHandle}
+use Rattle.ideal.specs.Step.{full, isNamed, isEscrowed, spent, givenUp, absent, valueIn, hasHandle, handleOf, next, freeFrom, freeHandle}
 use Rattle.lists.proofs.Bools.{by-cases, and-left, and-right}
 
 pub record SameEntry (secret : EscrowKey → Bool) (r q : Escrowed) : Type 0 where
@@ -65,6 +65,21 @@ module _ (secret : EscrowKey → Bool) where
   unfolding full
   same-full n xs = rw (same-count xs, same-bytes-used xs)
 
+  -- ---- a release
+
+  same-given : {r q : Escrowed} (h : Handle) (i j : ℕ) → SameEntry secret r q → SameEntry secret (givenUp h i j r) (givenUp h i j q)
+  unfolding givenUp spent
+  same-given {r} {q} h i j x =
+      let n : isNamed h i j r ≡ isNamed h i j q = unfold isNamed in rw (x .key) in
+      by-cases (isNamed h i j r)
+      (λ e. rw (← n, e) (record { key = rw (x .key); size = refl; value = λ _. refl }))
+      (λ e. rw (← n, e) x)
+
+  pub same-release : {l m : List Escrowed} (h : Handle) (i j : ℕ) → SameEscrow secret l m
+      → SameEscrow secret (map (givenUp h i j) l) (map (givenUp h i j) m)
+  same-release h i j no-entries = no-entries
+  same-release h i j (entry x xs) = entry (same-given h i j x) (same-release h i j xs)
+
   -- ---- handles
 
   same-in-use : {l m : List Escrowed} (h : Handle) → SameEscrow secret l m → any (hasHandle h) l ≡ any (hasHandle h) m
@@ -84,21 +99,23 @@ module _ (secret : EscrowKey → Bool) where
   -- ---- what a retrieve finds
 
   escrowed-key : (h : Handle) (source recipient : ℕ) (r : Escrowed) → isEscrowed h source recipient r ≡ true
-      → r .key ≡ record { source = source; recipient = recipient; handle = h }
-  unfolding isEscrowed
+      → r .key ≡ record { source = source; recipient = recipient; handle = h; mark = 0 }
+  unfolding isEscrowed isNamed
   escrowed-key h i j r e =
-      let a = eqb-true (r .key .handle .0) (h .0) (and-left _ _ e) in
-      let f = and-right (eqb (r .key .handle .0) (h .0)) _ e in
+      let named = and-left (isNamed h i j r) _ e in
+      let a = eqb-true (r .key .handle .0) (h .0) (and-left _ _ named) in
+      let f = and-right (eqb (r .key .handle .0) (h .0)) _ named in
       let b = eqb-true (r .key .source) i (and-left _ _ f) in
       let c = eqb-true (r .key .recipient) j (and-right (eqb (r .key .source) i) _ f) in
-      λ n. record { source = b n; recipient = c n; handle = record { 0 = a n } }
+      let d = eqb-true (r .key .mark) 0 (and-right (isNamed h i j r) _ e) in
+      λ n. record { source = b n; recipient = c n; handle = record { 0 = a n }; mark = d n }
 
   same-is : {r q : Escrowed} (h : Handle) (i j : ℕ) → SameEntry secret r q → isEscrowed h i j r ≡ isEscrowed h i j q
-  unfolding isEscrowed
+  unfolding isEscrowed isNamed
   same-is h i j x = rw (x .key)
 
   pub same-find : {l m : List Escrowed} (h : Handle) (i j : ℕ) → SameEscrow secret l m
-      → SameFound (secret (record { source = i; recipient = j; handle = h })) (find (isEscrowed h i j) l)
+      → SameFound (secret (record { source = i; recipient = j; handle = h; mark = 0 })) (find (isEscrowed h i j) l)
       (find (isEscrowed h i j) m)
   unfolding find absent valueIn
   same-find h i j no-entries = record { absent = refl; size = refl; value = λ _. refl }

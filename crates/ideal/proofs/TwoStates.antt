@@ -12,11 +12,11 @@ use borrow.Author.Tests.{eqb-true, eqb-false}
 use Rattle.record.specs.declared.Handle.{Handle}
 use Rattle.record.specs.declared.Draw.{Draw}
 use Rattle.record.specs.Call.{Call, heapWrite, attest, protect, retrieve, chain}
-use Rattle.ideal.specs.State.{EscrowKey, Logged, Escrowed, State, Move, nothing, takes, activates, empties, writes, shares, logs, escrows, cleared, identityAt, heapAt, caller, part, ownPart}
+use Rattle.ideal.specs.State.{EscrowKey, Logged, Escrowed, State, Move, nothing, takes, activates, empties, writes, shares, logs, escrows, releases, cleared, identityAt, heapAt, caller, part, ownPart}
 use Rattle.ideal.specs.Step.{Link, found, absent, idle, vacant, refusal, withPair, protected, withPlaces, withCommon, apply}
 use Rattle.lists.proofs.Bools.{by-cases}
 use Rattle.ideal.proofs.Following.{Comes}
-use Rattle.ideal.proofs.TwoEscrows.{SameEntry, SameEscrow, SameFound, same-escrow, same-more, same-find}
+use Rattle.ideal.proofs.TwoEscrows.{SameEntry, SameEscrow, SameFound, same-escrow, same-more, same-release, same-find}
 
 -- ---- lists
 
@@ -81,12 +81,12 @@ pub record NoneTold (z : Secrets) (s t : State) (c : Call) : Type 0 where
   pub protects : z .heap (s .running) (caller s) ≡ true → (i o n : ℕ) (d : Draw) → c ≡ protect i o n d
       → z .value (protected s i o n d .key) ≡ false → refusal s c ≡ 0 → ownPart s o n ≡ ownPart t o n
   pub retrieves : z .heap (s .running) (caller s) ≡ false → (i o : ℕ) (h : Handle) → c ≡ retrieve i o h → refusal s c ≡ 0
-      → z .value (record { source = i; recipient = caller s; handle = h }) ≡ false
+      → z .value (record { source = i; recipient = caller s; handle = h; mark = 0 }) ≡ false
   pub follows : z .heap (s .running) (caller s) ≡ false → (w i x : ℕ) (v : List ℕ) → c ≡ chain w i x v
       → (left : ℕ) (l : Link) (rest : List ℕ)
       → Comes (s .log) (found s) (record { way = w; identity = i; number = x }) v (suc left) l rest → l .way ≡ 3
       → absent (found s (l .identity) (record { 0 = l .number })) ≡ false
-      → z .value (record { source = l .identity; recipient = caller s; handle = record { 0 = l .number } }) ≡ false
+      → z .value (record { source = l .identity; recipient = caller s; handle = record { 0 = l .number }; mark = 0 }) ≡ false
 
 module _ (z : Secrets) {s t : State} (k : SameBut z s t) where
   -- ---- what both states share
@@ -107,7 +107,7 @@ module _ (z : Secrets) {s t : State} (k : SameBut z s t) where
   same-size o n = rw (← k .running) (length-part _ _ o n (k .heaps .sizes (s .running)))
 
   pub same-found : (i : ℕ) (h : Handle)
-      → SameFound (z .value (record { source = i; recipient = caller s; handle = h })) (found s i h) (found t i h)
+      → SameFound (z .value (record { source = i; recipient = caller s; handle = h; mark = 0 })) (found s i h) (found t i h)
   unfolding found
   same-found i h = rw same-caller (same-find (z .value) h i (caller t) (k .escrow))
 
@@ -133,6 +133,7 @@ pub data SameMove (z : Secrets) (s t : State) : Move → Move → Type 0 where
   same-share : {o : ℕ} {v : List ℕ} → SameMove z s t (shares o v) (shares o v)
   same-log : {e f : Logged} → e ≡ f → SameMove z s t (logs e) (logs f)
   same-escrows : {e f : Escrowed} → SameEntry (z .value) e f → SameMove z s t (escrows e) (escrows f)
+  same-releases : {i r q : ℕ} {h : Handle} → r ≡ q → SameMove z s t (releases i r h) (releases i q h)
 
 -- a heap is replaced in both
 set-heaps : (z : Secrets) (is : List ℕ) (hs ks : List (List ℕ)) (i : ℕ) (x y : List ℕ) → SameHeaps z is hs ks
@@ -195,3 +196,6 @@ module _ (z : Secrets) {s t : State} (k : SameBut z s t) where
   same-apply (same-share {o = o} {v = v}) = with-common (ap (λ m. sets m o v) (k .shared)) (k .log) (k .escrow)
   same-apply (same-log e) = with-common (k .shared) (λ i. withPair (e i) (k .log i)) (k .escrow)
   same-apply (same-escrows e) = with-common (k .shared) (k .log) (same-more (z .value) (k .escrow) e)
+  same-apply (same-releases {i = i} {r = r} {h = h} e) =
+      subst (λ q. SameBut z (apply s (releases i r h)) (apply t (releases i q h))) e
+      (with-common (k .shared) (k .log) (same-release (z .value) h i r (k .escrow)))

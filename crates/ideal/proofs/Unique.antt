@@ -1,16 +1,17 @@
 -- What a search finds, where no two elements that pass the test are in the list. Assumes nothing.
 use Prim.Native.Nat.{ℕ}
-use mathlib.Core.Path.{_≡_}
+use mathlib.Core.Path.{_≡_, ap}
 use mathlib.Core.Logic.{inl, inr}
-use mathlib.Core.Bool.{Bool, true, not, _&&_, false≢true}
+use mathlib.Core.Bool.{Bool, true, false, not, _&&_, false≢true}
 use mathlib.Core.List.{List, [], _∷_}
 use mathlib.Core.Option.{Option, some}
 use native.Mathlib.Omega.{arith}
 use borrow.Author.Tests.{not-true}
-use Rattle.ideal.specs.State.{any, find}
+use Rattle.ideal.specs.State.{Escrowed, any, find}
+use Rattle.ideal.specs.Step.{absent}
 use Rattle.ideal.specs.Soundness.{differ}
 use Rattle.lists.proofs.Bools.{by-cases, clash, and-left, and-right, and-true, or-split, or-true-left, or-true-right}
-use Rattle.lists.proofs.Lists.{any-at, at-any}
+use Rattle.lists.proofs.Lists.{any-at, at-any, none-find}
 
 module _ {A : Type 0} (p q : A → Bool) where
   pub found-any : (l : List A) (a : A) → find p l ≡ some a → q a ≡ true → any (λ b. p b && q b) l ≡ true
@@ -52,3 +53,8 @@ module _ {A : Type 0} (same : A → A → Bool) (p q : A → Bool)
       (λ e.
       let r = finds l (and-right (not (any (same b) l)) _ d) (rw e at h) in
       record { element = r .element; is = rw e (r .is); passes = r .passes })
+
+-- what is not absent is there
+pub present : (p : Escrowed → Bool) (l : List Escrowed) → absent (find p l) ≡ false → any p l ≡ true
+unfolding absent
+present p l h = by-cases (any p l) (λ t. t) (λ f. clash (absent (find p l)) (ap absent (none-find p l f)) h)

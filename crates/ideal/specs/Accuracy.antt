@@ -1,4 +1,4 @@
--- Demand 2: what a check, a retrieve and a chain say about the calls since a fresh box, on the host's tables.
+-- Demand 2: what a check, a retrieve, a release and a chain say about the calls since a fresh box, on the host's tables.
 use Prim.Native.Nat.{ℕ, zero, suc, _+_, _*_, _-_, _≤_, _<_}
 use mathlib.Core.Path.{_≡_}
 use mathlib.Core.Logic.{_↔_}
@@ -10,7 +10,7 @@ use lib.Dec.{eqb}
 use Rattle.fnv.specs.declared.Tag.{Tag}
 use Rattle.record.specs.declared.Handle.{Handle}
 use Rattle.record.specs.declared.Draw.{Draw}
-use Rattle.record.specs.Call.{attest, check, protect, retrieve, chain}
+use Rattle.record.specs.Call.{attest, check, protect, retrieve, chain, release}
 use Rattle.record.specs.Read.{whole, read, fromLittle}
 use Rattle.ideal.specs.State.{part, any}
 use Rattle.ideal.specs.Step.{handleOf, next, Link}
@@ -24,6 +24,13 @@ pub record Earlier (P : ℕ → Type 0) (k : ℕ) : Type 0 where
   pub index : ℕ
   pub before : index < k
   pub there : P index
+
+-- something holds at an index before k, and another thing at none since
+pub record EarlierNot (P Q : ℕ → Type 0) (k : ℕ) : Type 0 where
+  pub index : ℕ
+  pub before : index < k
+  pub there : P index
+  pub since : (j : ℕ) → index < j → j < k → Q j → ⊥
 
 -- the tables with bytes at an offset of the running place's heap, and nothing else altered
 unfoldable pub withOwnBytes : Tables → ℕ → List ℕ → Tables
@@ -90,6 +97,13 @@ module _ (box : Tables → Element → Result) (es : List Element) where
     pub bytes : ownBytes (tablesBefore box es k) offset size ≡ v
     pub gets : answerAt box es k .number ≡ handle .0
 
+  -- at this index the recipient releases what the source protected for it under the handle
+  pub record ReleasesAt (source recipient : ℕ) (handle : Handle) (k : ℕ) : Type 0 where
+    pub used : ℕ
+    pub reads : read (elementAt es k .bytes) ≡ whole (release source handle) used
+    pub accepts : answerAt box es k .code ≡ 0
+    pub by : callerIn (tablesBefore box es k) ≡ recipient
+
   -- the call at this index is accepted with this number
   abbrev pub Says : ℕ → ℕ → Type 0
   Says n k = (answerAt box es k .code ≡ 0) × (answerAt box es k .number ≡ n)
@@ -112,31 +126,40 @@ module _ (box : Tables → Element → Result) (es : List Element) where
     pub yes : Says 1 k ↔ (Sized k × Earlier (LogsAt i v tag) k)
     pub no : Says 0 k ↔ (Sized k × (i ≡ 0 → ⊥) × (Earlier (LogsAt i v tag) k → ⊥))
 
-  -- the source protected v for the program that runs at k, before k, and got the handle
-  abbrev pub ProtectedBefore : ℕ → ℕ → Handle → List ℕ → Type 0
-  ProtectedBefore k source handle v = Earlier (ProtectsAt source (callerIn (tablesBefore box es k)) handle v) k
+  -- the source protected v for the program that runs at k, before k, and got the handle; that program has not released it since
+  abbrev pub HeldBefore : ℕ → ℕ → Handle → List ℕ → Type 0
+  HeldBefore k source handle v =
+      let recipient = callerIn (tablesBefore box es k) in
+      EarlierNot (ProtectsAt source recipient handle v) (ReleasesAt source recipient handle) k
 
-  -- a retrieve hands out a value exactly when that source earlier protected it for the caller and got that handle, and it fits
+  -- a retrieve hands out a value exactly when that source earlier protected it for the caller and got that handle, the caller
+  -- has not released it since, and it fits
   abbrev pub HandsOutWhen : (k source offset : ℕ) → Handle → Type 0
   HandsOutWhen k source offset handle =
-      (v : List ℕ) → HandsOut offset v k ↔ (Sized k × ProtectedBefore k source handle v × (offset + length v ≤ 256))
+      (v : List ℕ) → HandsOut offset v k ↔ (Sized k × HeldBefore k source handle v × (offset + length v ≤ 256))
 
   pub record RetrieveAt (k source offset : ℕ) (handle : Handle) : Type 0 where
     pub hands-out : HandsOutWhen k source offset handle
     -- what is handed out is unique
-    pub one-value : (v w : List ℕ) → ProtectedBefore k source handle v → ProtectedBefore k source handle w → v ≡ w
+    pub one-value : (v w : List ℕ) → HeldBefore k source handle v → HeldBefore k source handle w → v ≡ w
     -- 10: no such escrow row
     pub not-there : (answerAt box es k .code ≡ 10)
-        ↔ (Sized k × Runs k × (source ≡ 0 → ⊥) × ((v : List ℕ) → ProtectedBefore k source handle v → ⊥))
+        ↔ (Sized k × Runs k × (source ≡ 0 → ⊥) × ((v : List ℕ) → HeldBefore k source handle v → ⊥))
     -- 11: it does not fit where it was asked
-    pub too-far : (v : List ℕ) → ProtectedBefore k source handle v
+    pub too-far : (v : List ℕ) → HeldBefore k source handle v
         → (answerAt box es k .code ≡ 11) ↔ (Sized k × (256 < offset + length v))
 
+  -- a release is accepted exactly when there is such a value, and is refused with 10 exactly when there is none
+  pub record ReleaseAt (k source : ℕ) (handle : Handle) : Type 0 where
+    pub gives-up : Says 0 k ↔ (Sized k × (v : List ℕ) × HeldBefore k source handle v)
+    pub not-there : (answerAt box es k .code ≡ 10)
+        ↔ (Sized k × Runs k × (source ≡ 0 → ⊥) × ((v : List ℕ) → HeldBefore k source handle v → ⊥))
+
   -- a link's value was logged before k by that identity under that tag, or escrowed by it for the program that runs at k
-  -- under that handle
+  -- under that handle and not released since
   pub data Vouched (k : ℕ) (h : LinkValue) : Type 0 where
     was-logged : h .link .way ≡ 2 → Earlier (LogsAt (h .link .identity) (h .value) (record { 0 = h .link .number })) k → Vouched k h
-    was-escrowed : h .link .way ≡ 3 → ProtectedBefore k (h .link .identity) (record { 0 = h .link .number }) (h .value) → Vouched k h
+    was-escrowed : h .link .way ≡ 3 → HeldBefore k (h .link .identity) (record { 0 = h .link .number }) (h .value) → Vouched k h
 
   -- a chain of n links, the first of which is so named, that ends, with these chain bytes
   pub record Custody (k : ℕ) (first : Link) (chainBytes : List ℕ) (n : ℕ) : Type 0 where
@@ -187,6 +210,10 @@ module _ (box : Tables → Element → Result) where
   RetrieveIsAccurate = (es : List Element) (k source offset : ℕ) (handle : Handle) (used : ℕ)
       → read (elementAt es k .bytes) ≡ whole (retrieve source offset handle) used → RetrieveAt box es k source offset handle
 
+  abbrev pub ReleaseIsAccurate : Type 0
+  ReleaseIsAccurate = (es : List Element) (k source : ℕ) (handle : Handle) (used : ℕ)
+      → read (elementAt es k .bytes) ≡ whole (release source handle) used → ReleaseAt box es k source handle
+
   -- a chain is accepted with n exactly when a program runs and there are n such links
   abbrev pub ChainIsAccurate : Type 0
   ChainIsAccurate = (es : List Element) (k way identity number : ℕ) (v : List ℕ) (used : ℕ)
@@ -194,7 +221,7 @@ module _ (box : Tables → Element → Result) where
       → Says box es n k
       ↔ (Sized box es k × Runs box es k × Custody box es k (record { way = way; identity = identity; number = number }) v n)
 
-  -- no handle is given twice
+  -- no handle is given twice, though its value be released
   abbrev pub HandleOnce : Type 0
   HandleOnce = (es : List Element) (handle : Handle) (i₁ r₁ i₂ r₂ : ℕ) (v₁ v₂ : List ℕ) (k₁ k₂ : ℕ)
       → ProtectsAt box es i₁ r₁ handle v₁ k₁ → ProtectsAt box es i₂ r₂ handle v₂ k₂ → k₁ ≡ k₂

@@ -6,7 +6,7 @@ use mathlib.Core.List.{[], _∷_}
 use mathlib.Core.Option.{Option, none, some}
 use lib.ListN.{length}
 use Rattle.fnv.specs.Fnv.{tagOf}
-use Rattle.record.specs.Call.{Call, create, exit, heapWrite, heapRead, sharedWrite, sharedRead, attest, check, protect, retrieve, report, handOver, chain}
+use Rattle.record.specs.Call.{Call, create, exit, heapWrite, heapRead, sharedWrite, sharedRead, attest, check, protect, retrieve, report, handOver, chain, release}
 use Rattle.record.specs.Read.{whole, read}
 use Rattle.record.specs.Write.{filled}
 use Rattle.ideal.specs.Step.{Answer}
@@ -29,6 +29,7 @@ plainNumber t (retrieve i o h) = none
 plainNumber t report = none
 plainNumber t (handOver p) = some 0
 plainNumber t (chain w i x v) = none
+plainNumber t (release i h) = some 0
 
 pub record Answered (t : Tables) (c : Call) (size : ℕ) (a : Answer) : Type 0 where
   pub number : (n : ℕ) → plainNumber t c ≡ some n → a .number ≡ n

@@ -7,7 +7,7 @@ use Rattle.ideal.specs.Box.{Element, Result}
 use Rattle.ideal.specs.Refusals.{conditions, EachNumberBy, EachNumber, RefusalsAlterNothing, NeverFive, NumberOnlyWithOne, MissingIsExact}
 use Rattle.ideal.specs.Answers.{AcceptedAnswers}
 use Rattle.ideal.specs.History.{HistoryHolds, Reports}
-use Rattle.ideal.specs.Accuracy.{CheckIsAccurate, LongCheckIsNo, RetrieveIsAccurate, ChainIsAccurate, HandleOnce, HandleIsFirstFree}
+use Rattle.ideal.specs.Accuracy.{CheckIsAccurate, LongCheckIsNo, RetrieveIsAccurate, ReleaseIsAccurate, ChainIsAccurate, HandleOnce, HandleIsFirstFree}
 use Rattle.ideal.specs.Secrecy.{Secrecy}
 
 -- whatever is malformed or full, the box finishes with the numbered refusal that this table has for it, and a refusal alters
@@ -30,6 +30,7 @@ module _ (box : Tables → Element → Result) where
     pub checks : CheckIsAccurate box
     pub long-checks : LongCheckIsNo box
     pub retrieves : RetrieveIsAccurate box
+    pub releases : ReleaseIsAccurate box
     pub chains : ChainIsAccurate box
     pub handles-once : HandleOnce box
     pub handles-free : HandleIsFirstFree box

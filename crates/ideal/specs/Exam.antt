@@ -1,5 +1,5 @@
--- Document 01's exam cases A to J, B and D as request P7 amends them, and those of requests P1 to P3 and P7 in one list of
--- records, every kind among them, with the whole answers.
+-- Document 01's exam cases A to J, B and D as request P7 amends them, and those of requests P1 to P3, P7 and P8 in one list
+-- of records, every kind among them, with the whole answers.
 use Prim.Native.Nat.{ℕ, zero, suc, _/_, _%_, _^_}
 use mathlib.Core.Path.{_≡_}
 use mathlib.Core.List.{List, [], _∷_, map}
@@ -63,8 +63,12 @@ questions =
     ∷ hex 2 0x47_01 gives says 3 0 0 []
     -- a chain with the map of a check
     ∷ hex 2 0x65_0F gives says 3 0 0 []
-    -- kind 16
-    ∷ hex 2 0x67_10 gives says 2 0 0 []
+    -- before the number of a release
+    ∷ hex 10 0x25_10_0807060504030201 gives says 1 8 0 []
+    -- a release with the map of a retrieve
+    ∷ hex 2 0x2D_10 gives says 3 0 0 []
+    -- kind 17
+    ∷ hex 2 0x25_11 gives says 2 0 0 []
     -- no such kind, with a field cut
     ∷ hex 2 0x07_00 gives says 2 0 0 []
     -- create: place 0 for 0x0102030405060708
@@ -151,6 +155,8 @@ questions =
     ∷ hex 2 0x01_04 gives says 4 0 2 []
     -- a chain by way 1, with identity 0: none runs
     ∷ hex 21 0x67_0F_01_0000000000000000_0700000000000500_0000 gives says 4 0 21 []
+    -- a release, with identity 0: none runs
+    ∷ hex 18 0x25_10_0000000000000000_0700000000000500 gives says 4 0 18 []
     -- report: two services, two log rows, seven escrow rows
     ∷ hex 2 0x01_0D gives says 0 459266 2 []
     -- hand over: place 0
@@ -229,6 +235,40 @@ questions =
     ∷ hex 6 0x19_09_0100_1200 gives says 0 3740463016627594266 6 []
     -- a chain of two links, the first with payload
     ∷ hex 44 0x67_0F_02_0807060504030201_1AE492B94BCBE833_1700_12000208070605040302013CA3801F6160059601010001 gives says 0 2 44 []
+    -- shared write: byte 0
+    ∷ hex 7 0x49_07_0000_0100_5A gives says 0 1 7 []
+    -- release the value that was protected with draw 9
+    ∷ hex 18 0x25_10_0807060504030201_0900000000001100 gives says 0 0 18 []
+    -- again: its row is spent
+    ∷ hex 18 0x25_10_0807060504030201_0900000000001100 gives says 10 0 18 []
+    -- retrieve it
+    ∷ hex 20 0x2D_0C_0807060504030201_0000_0900000000001100 gives says 10 0 20 []
+    -- a chain through it
+    ∷ hex 24 0x67_0F_03_0807060504030201_0900000000001100_0300_010001 gives says 18 0 24 []
+    -- the value behind it, which has moved down, leads to itself as before
+    ∷ hex 21 0x67_0F_03_0807060504030201_0A00000000001100_0000 gives says 20 0 21 []
+    -- retrieve that
+    ∷ hex 20 0x2D_0C_0807060504030201_2000_0A00000000001100 gives says 0 17 20 []
+    -- heap read: its bytes
+    ∷ hex 7 0x1B_06_0F_2000_1100 gives says 0 17 7 (hex 17 0x0308070605040302010A00000000001100)
+    -- protect 17 bytes with draw 9: the handle of the spent row is passed over
+    ∷ hex 22 0x3D_0B_0807060504030201_0100_1100_0900000000000000 gives says 0 4785301538216416 22 []
+    -- release by the source, of A's row
+    ∷ hex 18 0x25_10_0807060504030201_0700000000000500 gives says 10 0 18 []
+    -- of another source
+    ∷ hex 18 0x25_10_1817161514131211_0A00000000001100 gives says 10 0 18 []
+    -- of identity 0
+    ∷ hex 18 0x25_10_0000000000000000_0A00000000001100 gives says 9 0 18 []
+    -- protect no bytes, draw 8
+    ∷ hex 22 0x3D_0B_0807060504030201_0000_0000_0800000000000000 gives says 0 8 22 []
+    -- release them
+    ∷ hex 18 0x25_10_0807060504030201_0800000000000000 gives says 0 0 18 []
+    -- again
+    ∷ hex 18 0x25_10_0807060504030201_0800000000000000 gives says 10 0 18 []
+    -- shared read: no release has touched it
+    ∷ hex 6 0x19_08_0000_0100 gives says 0 1 6 (hex 1 0x5A)
+    -- report: two services, six log rows, eleven escrow rows, spent ones among them
+    ∷ hex 2 0x01_0D gives says 0 722434 2 []
     ∷ []
 
 unfoldable pub asked : List Element

@@ -1,16 +1,16 @@
 -- What the box holds, said from its history alone: the accepted calls since a fresh box.
 use Prim.Native.Nat.{ℕ, zero, suc, _+_, _*_, _-_, _<_, _/_, _%_}
 use mathlib.Core.Path.{_≡_}
-use mathlib.Core.Bool.{Bool, _&&_, cond, not}
+use mathlib.Core.Bool.{Bool, false, _&&_, _||_, cond, not}
 use mathlib.Core.List.{List, [], _∷_, _++_}
 use lib.ListN.{length, getD, take}
 use lib.Dec.{eqb, ltb, leb}
 use Rattle.record.specs.Layout.{stands}
-use Rattle.record.specs.Call.{Call, create, exit, heapWrite, heapRead, sharedWrite, sharedRead, attest, check, protect, retrieve, report, handOver, chain}
+use Rattle.record.specs.Call.{Call, create, exit, heapWrite, heapRead, sharedWrite, sharedRead, attest, check, protect, retrieve, report, handOver, chain, release}
 use Rattle.record.specs.Read.{Reading, refused, whole, read}
 use Rattle.ideal.specs.declared.LogRow.{LogRow}
 use Rattle.ideal.specs.declared.EscrowRow.{EscrowRow}
-use Rattle.ideal.specs.State.{Logged, Escrowed, Move, nothing, takes, activates, empties, writes, shares, logs, escrows, part, any, sameBytes, bytesUsed}
+use Rattle.ideal.specs.State.{Logged, Escrowed, Move, nothing, takes, activates, empties, writes, shares, logs, escrows, releases, part, any, sameBytes, bytesUsed}
 use Rattle.ideal.specs.Step.{Answer}
 use Rattle.ideal.specs.Tables.{Tables, logTable, escrowTable, freshTables}
 use Rattle.ideal.specs.Layouts.{Sound}
@@ -30,11 +30,16 @@ moveSeen t u n (attest o m) =
     logs (record { key = record { identity = callerIn t; tag = record { 0 = n } }; value = ownBytes t o m })
 moveSeen t u n (check i g v) = nothing
 moveSeen t u n (protect i o m d) =
-    escrows (record { key = record { source = callerIn t; recipient = i; handle = record { 0 = n } }; value = ownBytes t o m })
+    escrows
+    (record {
+      key = record { source = callerIn t; recipient = i; handle = record { 0 = n }; mark = 0 };
+      value = ownBytes t o m;
+    })
 moveSeen t u n (retrieve i o h) = writes (t .box .running) o (ownBytes u o n)
 moveSeen t u n report = nothing
 moveSeen t u n (handOver p) = activates p
 moveSeen t u n (chain w i x v) = nothing
+moveSeen t u n (release i h) = releases i (callerIn t) h
 
 unfoldable pub added : Tables → Result → Reading → List Move → List Move
 added t r (refused code number) past = past
@@ -63,6 +68,7 @@ runs (writes p o v ∷ past) = runs past
 runs (shares o v ∷ past) = runs past
 runs (logs e ∷ past) = runs past
 runs (escrows e ∷ past) = runs past
+runs (releases i r h ∷ past) = runs past
 
 -- place p has the identity of its last accepted create until its accepted exit
 unfoldable pub holder : List Move → ℕ → ℕ
@@ -75,6 +81,7 @@ holder (writes q o v ∷ past) p = holder past p
 holder (shares o v ∷ past) p = holder past p
 holder (logs e ∷ past) p = holder past p
 holder (escrows e ∷ past) p = holder past p
+holder (releases i r h ∷ past) p = holder past p
 
 unfoldable pub within : ℕ → List ℕ → ℕ → Bool
 within offset bytes x = leb offset x && ltb x (offset + length bytes)
@@ -91,6 +98,7 @@ byteAt (writes p o v ∷ past) m x = cond (eqb m p && within o v x) (getD v (x -
 byteAt (shares o v ∷ past) m x = cond (eqb m 16 && within o v x) (getD v (x - o) 0) (byteAt past m x)
 byteAt (logs e ∷ past) m x = byteAt past m x
 byteAt (escrows e ∷ past) m x = byteAt past m x
+byteAt (releases i r h ∷ past) m x = byteAt past m x
 
 unfoldable pub isAttested : ℕ → List ℕ → Logged → Bool
 isAttested i v e = eqb (e .key .identity) i && sameBytes (e .value) v
@@ -107,8 +115,9 @@ pairs (shares o v ∷ past) = pairs past
 pairs (logs e ∷ past) =
     cond (any (isAttested (e .key .identity) (e .value)) (pairs past)) (pairs past) (pairs past ++ (e ∷ []))
 pairs (escrows e ∷ past) = pairs past
+pairs (releases i r h ∷ past) = pairs past
 
--- the values that were protected, oldest first
+-- the values that were protected, oldest first, whether or not they were released since
 unfoldable pub protects : List Move → List Escrowed
 protects [] = []
 protects (nothing ∷ past) = protects past
@@ -119,6 +128,27 @@ protects (writes p o v ∷ past) = protects past
 protects (shares o v ∷ past) = protects past
 protects (logs e ∷ past) = protects past
 protects (escrows e ∷ past) = protects past ++ (e ∷ [])
+protects (releases i r h ∷ past) = protects past
+
+-- whether such a value was released: by its recipient, who names its source and handle. A handle is given once, so that none
+-- was released before it was protected.
+unfoldable pub isReleased : List Move → Escrowed → Bool
+isReleased [] e = false
+isReleased (nothing ∷ past) e = isReleased past e
+isReleased (takes p i ∷ past) e = isReleased past e
+isReleased (activates p ∷ past) e = isReleased past e
+isReleased (empties p ∷ past) e = isReleased past e
+isReleased (writes p o v ∷ past) e = isReleased past e
+isReleased (shares o v ∷ past) e = isReleased past e
+isReleased (logs x ∷ past) e = isReleased past e
+isReleased (escrows x ∷ past) e = isReleased past e
+isReleased (releases i r h ∷ past) e =
+    eqb (e .key .handle .0) (h .0) && (eqb (e .key .source) i && eqb (e .key .recipient) r) || isReleased past e
+
+-- the bytes of those that were not
+unfoldable pub bytesHeld : List Move → List Escrowed → ℕ
+bytesHeld past [] = 0
+bytesHeld past (e ∷ es) = cond (isReleased past e) 0 (length (e .value)) + bytesHeld past es
 
 -- how many of a map's lowest bits stand
 unfoldable pub ones : ℕ → ℕ → ℕ
@@ -138,11 +168,13 @@ pub record LogHolds (values : List ℕ) (row : LogRow) (e : Logged) : Type 0 whe
   pub tag : row .tag ≡ e .key .tag
   pub value : part values (row .first) (row .length) ≡ e .value
 
-pub record EscrowHolds (values : List ℕ) (row : EscrowRow) (e : Escrowed) : Type 0 where
+-- a row with its value bytes is what was protected so, spent and of no bytes where it was released
+pub record EscrowHolds (values : List ℕ) (row : EscrowRow) (e : Escrowed) (released : Bool) : Type 0 where
   pub source : row .source ≡ e .key .source
   pub recipient : row .recipient ≡ e .key .recipient
   pub handle : row .handle ≡ e .key .handle
-  pub value : part values (row .first) (row .length) ≡ e .value
+  pub mark : row .mark ≡ cond released 1 0
+  pub value : part values (row .first) (row .length) ≡ cond released [] (e .value)
 
 pub record AsThePast (t : Tables) (past : List Move) : Type 0 where
   pub running : t .box .running ≡ runs past
@@ -154,12 +186,13 @@ pub record AsThePast (t : Tables) (past : List Move) : Type 0 where
   pub logRows : t .box .log .rows ≡ length (pairs past)
   pub logBytes : t .box .log .bytes ≡ bytesUsed (pairs past)
   pub escrowRows : t .box .escrow .rows ≡ length (protects past)
-  pub escrowBytes : t .box .escrow .bytes ≡ bytesUsed (protects past)
+  pub escrowBytes : t .box .escrow .bytes ≡ bytesHeld past (protects past)
   -- the rows in order, entry by entry (d stands for none)
   pub log : (k : ℕ) (d : Logged) → k < length (pairs past)
       → LogHolds (t .logValues) (getD (t .logRows) k (logTable .blank)) (getD (pairs past) k d)
   pub escrow : (k : ℕ) (d : Escrowed) → k < length (protects past)
       → EscrowHolds (t .escrowValues) (getD (t .escrowRows) k (escrowTable .blank)) (getD (protects past) k d)
+      (isReleased past (getD (protects past) k d))
   -- every buffer is of its size, and the box is sound
   pub sound : Sound t 1024
 

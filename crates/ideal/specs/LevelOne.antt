@@ -4,7 +4,7 @@ use Prim.Native.Nat.{ℕ}
 use mathlib.Core.Bool.{Bool, true, not, _&&_, _||_, cond}
 use mathlib.Core.List.{List, [], _∷_}
 use lib.Dec.{eqb, ltb}
-use Rattle.record.specs.Call.{Call, create, exit, heapWrite, heapRead, sharedWrite, sharedRead, attest, check, protect, retrieve, report, handOver, chain}
+use Rattle.record.specs.Call.{Call, create, exit, heapWrite, heapRead, sharedWrite, sharedRead, attest, check, protect, retrieve, report, handOver, chain, release}
 use Rattle.record.specs.Write.{filled}
 use Rattle.ideal.specs.declared.LogRow.{LogRow}
 use Rattle.ideal.specs.declared.Profile.{Profile}
@@ -47,6 +47,7 @@ levelOneTests s (retrieve i o h) = (21, true) then tests s (retrieve i o h)
 levelOneTests s report = tests s report
 levelOneTests s (handOver p) = putAfter 6 (22, ltb 3 p && not (eqb p 16)) (tests s (handOver p))
 levelOneTests s (chain w i x v) = (21, true) then tests s (chain w i x v)
+levelOneTests s (release i h) = (21, true) then tests s (release i h)
 
 unfoldable pub levelOneRefusal : State → Call → ℕ
 levelOneRefusal s c = firstHolding (levelOneTests s c)
@@ -83,7 +84,7 @@ levelOneRows t c =
     let kind = filled c .kind in
     let f = filled c .fields in
     let other = any (holdsOther (t .logValues) (callerIn t) (ownBytes t (f .offset) (f .length))) (usedLog t) in
-    (21, oneOf (11 ∷ 12 ∷ 15 ∷ []) kind)
+    (21, oneOf (11 ∷ 12 ∷ 15 ∷ 16 ∷ []) kind)
     ∷ rowAfter 6 (22, (eqb kind 1 && ltb 3 (f .place)) || (eqb kind 14 && (ltb 3 (f .place) && not (eqb (f .place) 16))))
     (rowAfter 11 (23, eqb kind 9 && other) (callConditions t c))
 

@@ -9,7 +9,7 @@ use lib.ListN.{getD}
 use Rattle.fnv.specs.declared.Tag.{Tag}
 use Rattle.record.specs.declared.Handle.{Handle}
 use Rattle.record.specs.declared.Draw.{Draw}
-use Rattle.record.specs.Call.{Call, create, attest, protect, retrieve, handOver, chain}
+use Rattle.record.specs.Call.{Call, create, attest, protect, retrieve, handOver, chain, release}
 use Rattle.record.specs.Read.{whole, read}
 use Rattle.record.specs.Write.{filled}
 use Rattle.ideal.specs.declared.Profile.the-variants.{Full, LevelOne}
@@ -31,11 +31,12 @@ barring code = oneOf (21 ∷ 22 ∷ 23 ∷ []) code
 
 -- ---- the three numbers a third time, each by itself
 
--- 21: protect, retrieve, chain
+-- 21: protect, retrieve, chain, release
 pub data UsesEscrow : Call → Type 0 where
   in-protect : {i o n : ℕ} {d : Draw} → UsesEscrow (protect i o n d)
   in-retrieve : {i o : ℕ} {h : Handle} → UsesEscrow (retrieve i o h)
   in-chain : {w i x : ℕ} {v : List ℕ} → UsesEscrow (chain w i x v)
+  in-release : {i : ℕ} {h : Handle} → UsesEscrow (release i h)
 
 -- 22: a place of 4 to 15; beyond it is 6, or hand over's 16
 pub data HighPlace : Call → Type 0 where
@@ -83,10 +84,10 @@ module _ (box : Tables → Element → Result) where
 
   -- ---- what becomes of accuracy
 
-  -- kinds 11, 12 and 15 get 21, whatever was protected or logged
+  -- kinds 11, 12, 15 and 16 get 21, whatever was protected or logged
   abbrev pub EscrowIsBarred : Type 0
   EscrowIsBarred = (es : List Element) (k : ℕ) (c : Call) (used : ℕ) → read (elementAt es k .bytes) ≡ whole c used
-      → oneOf (11 ∷ 12 ∷ 15 ∷ []) (filled c .kind) ≡ true → (answerAt box es k .code ≡ 21) ↔ Sized box es k
+      → oneOf (11 ∷ 12 ∷ 15 ∷ 16 ∷ []) (filled c .kind) ≡ true → (answerAt box es k .code ≡ 21) ↔ Sized box es k
 
   -- a retrieve hands out what it would, word for word: nothing, since nothing is ever protected. 10 and 11 yield to 21
   abbrev pub RetrieveHandsOut : Type 0

@@ -13,6 +13,7 @@ pub mod Accuracy
 pub mod Draws
 pub mod Secrecy
 pub mod OneCall
+pub mod Release
 pub mod Demands
 pub mod Fixed
 pub mod LevelOne

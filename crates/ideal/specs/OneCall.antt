@@ -3,20 +3,20 @@
 use Prim.Native.Nat.{ℕ, zero, suc, _+_, _*_, _-_, _^_}
 use mathlib.Core.Path.{_≡_}
 use mathlib.Core.Bool.{cond}
-use mathlib.Core.List.{List, []}
+use mathlib.Core.List.{List, [], _∷_, _++_, map}
 use mathlib.Core.Option.{Option, none, some}
-use lib.ListN.{length, set}
+use lib.ListN.{length, getD, take, drop, set, replicate}
 use lib.Seq.{sets}
-use Rattle.record.specs.Call.{Call, create, exit, heapWrite, heapRead, sharedWrite, sharedRead, attest, check, protect, retrieve, report, handOver, chain}
+use Rattle.record.specs.Call.{Call, create, exit, heapWrite, heapRead, sharedWrite, sharedRead, attest, check, protect, retrieve, report, handOver, chain, release}
 use Rattle.record.specs.Read.{whole, read}
 use Rattle.ideal.specs.declared.Used.{Used}
 use Rattle.ideal.specs.declared.LogRow.{LogRow}
 use Rattle.ideal.specs.declared.EscrowRow.{EscrowRow}
-use Rattle.ideal.specs.State.{cleared, part, any}
+use Rattle.ideal.specs.State.{cleared, part, any, position}
 use Rattle.ideal.specs.Step.{Link}
-use Rattle.ideal.specs.Tables.{Tables, usedLog}
+use Rattle.ideal.specs.Tables.{Tables, escrowTable, usedLog, usedEscrow}
 use Rattle.ideal.specs.Box.{Element, Result, callOn}
-use Rattle.ideal.specs.Refusals.{callerIn, ownBytes, holdsPair, lengthIn, bytesIn, rowFor, isLogRow, valueAt, leftAt, leadsOn, namedIn, EachNumber, RefusalsAlterNothing}
+use Rattle.ideal.specs.Refusals.{callerIn, ownBytes, isRow, holdsPair, lengthIn, bytesIn, rowFor, isLogRow, valueAt, leftAt, leadsOn, namedIn, EachNumber, RefusalsAlterNothing}
 use Rattle.ideal.specs.Answers.{AcceptedAnswers}
 use Rattle.ideal.specs.History.{ones}
 use Rattle.ideal.specs.Accuracy.{withOwnBytes, HandleIsFirstFree}
@@ -88,6 +88,7 @@ withEscrowRow t recipient handle v =
       handle = record { 0 = handle };
       first = u .bytes;
       length = length v;
+      mark = 0;
     } in
     record {
       box =
@@ -104,6 +105,48 @@ withEscrowRow t recipient handle v =
       logValues = t .logValues;
       escrowRows = set (t .escrowRows) (u .rows) row;
       escrowValues = sets (t .escrowValues) (u .bytes) v;
+    }
+
+-- an escrow row that is released: marked spent, of no bytes
+unfoldable pub spentRow : EscrowRow → EscrowRow
+spentRow r =
+    record { source = r .source; recipient = r .recipient; handle = r .handle; first = r .first; length = 0; mark = 1 }
+
+-- a row whose value moves down by n bytes; the first byte of an unused row, which is 0, stays
+unfoldable pub movedDown : ℕ → EscrowRow → EscrowRow
+movedDown n r =
+    record {
+      source = r .source;
+      recipient = r .recipient;
+      handle = r .handle;
+      first = r .first - n;
+      length = r .length;
+      mark = r .mark;
+    }
+
+-- the escrow row at an index released: the values behind its own close up, with zeros behind them, so the first bytes of the
+-- rows after it and the bytes used fall by its length
+unfoldable pub withReleased : Tables → ℕ → Tables
+withReleased t k =
+    let b = t .box in
+    let u = b .escrow in
+    let r = getD (t .escrowRows) k (escrowTable .blank) in
+    let n = r .length in
+    record {
+      box =
+          record {
+            taken = b .taken;
+            running = b .running;
+            identities = b .identities;
+            log = b .log;
+            escrow = record { rows = u .rows; bytes = u .bytes - n };
+          };
+      heaps = t .heaps;
+      shared = t .shared;
+      logRows = t .logRows;
+      logValues = t .logValues;
+      escrowRows = take k (t .escrowRows) ++ (spentRow r ∷ map (movedDown n) (drop (suc k) (t .escrowRows)));
+      escrowValues = take (r .first) (t .escrowValues) ++ (drop (r .first + n) (t .escrowValues) ++ replicate n 0);
     }
 
 -- ---- a chain
@@ -138,6 +181,7 @@ leaves t n (retrieve i o h) = withOwnBytes t o (bytesIn (t .escrowValues) (rowFo
 leaves t n report = t
 leaves t n (handOver p) = withPlacesIn t (t .box .taken) p (t .box .identities) (t .heaps)
 leaves t n (chain w i x v) = t
+leaves t n (release i h) = withReleased t (position (isRow h i (callerIn t)) (usedEscrow t))
 
 -- the numbers that the rows and the counts say; the others are in specs/Answers.antt, and a protect's is the first free handle
 unfoldable pub countedNumber : Tables → Call → Option ℕ
@@ -154,6 +198,7 @@ countedNumber t (retrieve i o h) = some (lengthIn (rowFor t i h))
 countedNumber t report = some (ones 16 (t .box .taken) + 256 * t .box .log .rows + 65536 * t .box .escrow .rows)
 countedNumber t (handOver p) = none
 countedNumber t (chain w i x v) = some (linkCount t 16 (record { way = w; identity = i; number = x }) v)
+countedNumber t (release i h) = none
 
 unfoldable pub shows : Tables → Call → List ℕ
 shows t (create p i) = []
@@ -169,6 +214,7 @@ shows t (retrieve i o h) = []
 shows t report = []
 shows t (handOver p) = []
 shows t (chain w i x v) = []
+shows t (release i h) = []
 
 pub record Done (t : Tables) (c : Call) (r : Result) : Type 0 where
   pub leaves : r .tables ≡ leaves t (r .answer .number) c

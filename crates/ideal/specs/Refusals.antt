@@ -81,15 +81,17 @@ readerConditions bs =
     (1, eqb (length bs) 0)
     ∷ (2, not (stands map 0))
     ∷ (1, eqb (length bs) 1)
-    ∷ (2, ltb 15 kind || oneOf (0 ∷ 2 ∷ 3 ∷ []) kind)
+    ∷ (2, ltb 16 kind || oneOf (0 ∷ 2 ∷ 3 ∷ []) kind)
     ∷ (3, not (isMap map (mapOf kind)))
     ∷ (1, cutField bs)
     ∷ []
 
 -- ---- the program that calls, the host, and all programs together
 
+-- an unspent row with this handle, source and recipient
 unfoldable pub isRow : Handle → ℕ → ℕ → EscrowRow → Bool
-isRow h source recipient r = eqb (r .handle .0) (h .0) && (eqb (r .source) source && eqb (r .recipient) recipient)
+isRow h source recipient r =
+    (eqb (r .handle .0) (h .0) && (eqb (r .source) source && eqb (r .recipient) recipient)) && eqb (r .mark) 0
 
 unfoldable pub holdsPair : List ℕ → ℕ → List ℕ → LogRow → Bool
 holdsPair values i v r = eqb (r .identity) i && sameBytes (part values (r .first) (r .length)) v
@@ -107,7 +109,7 @@ unfoldable pub bytesIn : List ℕ → Option EscrowRow → List ℕ
 bytesIn values none = []
 bytesIn values (some r) = part values (r .first) (r .length)
 
--- the escrow row with this handle and source, and the caller as recipient
+-- the unspent escrow row with this handle and source, and the caller as recipient
 unfoldable pub rowFor : Tables → (source : ℕ) → Handle → Option EscrowRow
 rowFor t source h = find (isRow h source (callerIn t)) (usedEscrow t)
 
@@ -174,12 +176,12 @@ callConditions t c =
     let first : Link = record { way = f .place; identity = f .identity; number = f .number } in
     let row = rowFor t (f .identity) (record { 0 = f .number }) in
     let pair = any (holdsPair (t .logValues) (callerIn t) (ownBytes t (f .offset) (f .length))) (usedLog t) in
-    (4, oneOf (4 ∷ 5 ∷ 6 ∷ 9 ∷ 11 ∷ 12 ∷ 15 ∷ []) kind && eqb (b .running) 16)
+    (4, oneOf (4 ∷ 5 ∷ 6 ∷ 9 ∷ 11 ∷ 12 ∷ 15 ∷ 16 ∷ []) kind && eqb (b .running) 16)
     ∷ (6, (oneOf (1 ∷ 5 ∷ 6 ∷ []) kind && ltb 15 (f .place)) || (eqb kind 14 && ltb 16 (f .place)))
     ∷ (7, (eqb kind 1 && taken) || (eqb kind 14 && (ltb (f .place) 16 && not taken)))
     ∷ (8, oneOf (5 ∷ 6 ∷ []) kind && not (eqb (f .place) (b .running)))
-    ∷ (9, oneOf (1 ∷ 10 ∷ 11 ∷ 12 ∷ []) kind && eqb (f .identity) 0)
-    ∷ (10, eqb kind 12 && isAbsent row)
+    ∷ (9, oneOf (1 ∷ 10 ∷ 11 ∷ 12 ∷ 16 ∷ []) kind && eqb (f .identity) 0)
+    ∷ (10, oneOf (12 ∷ 16 ∷ []) kind && isAbsent row)
     ∷ (
       11,
       (oneOf (5 ∷ 6 ∷ 9 ∷ 11 ∷ []) kind && ltb 256 (f .offset + size))

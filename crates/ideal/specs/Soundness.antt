@@ -1,6 +1,6 @@
 -- Which lent buffers are of their size, and which boxes are sound: document 01's list, in its order.
 use Prim.Native.Nat.{ℕ, _+_, _/_, _^_}
-use mathlib.Core.Bool.{Bool, true, not, _&&_, _||_}
+use mathlib.Core.Bool.{Bool, true, not, _&&_, _||_, cond}
 use mathlib.Core.List.{List, [], _∷_}
 use lib.ListN.{length, getD, drop}
 use lib.Dec.{eqb, ltb, leb}
@@ -77,9 +77,13 @@ hasIdentities r = not (eqb (r .source) 0) && not (eqb (r .recipient) 0)
 unfoldable pub rightTag : Logged → Bool
 rightTag r = eqb (r .key .tag .0) (tagOf (r .key .identity) (r .value) .0)
 
--- the handle carries the row's length
+-- the mark is 0, or 1 in a spent row
+unfoldable pub rightMark : EscrowRow → Bool
+rightMark r = leb (r .mark) 1
+
+-- the handle carries the row's length; a spent row's length is 0, whatever its handle carries
 unfoldable pub carriesLength : EscrowRow → Bool
-carriesLength r = eqb (r .handle .0 / 2 ^ 48) (r .length)
+carriesLength r = cond (eqb (r .mark) 0) (eqb (r .handle .0 / 2 ^ 48) (r .length)) (eqb (r .length) 0)
 
 unfoldable pub soundTests : Tables → All
 soundTests t =
@@ -106,8 +110,9 @@ soundTests t =
     -- log pairs differ from row to row and each tag is the right one
     and differ samePair log
     and every rightTag log
-    -- handles differ from row to row and carry the row's length
+    -- handles differ from row to row and carry the row's length, but for spent rows, whose length is 0 (document 02, P8)
     and differ sameHandle escrow
+    and every rightMark (usedEscrow t)
     and every carriesLength (usedEscrow t)
     -- all unused rows and value bytes are zero
     and every (logTable .isBlank) (drop (b .log .rows) (t .logRows))

@@ -3,7 +3,7 @@ use Prim.Native.Nat.{ℕ, _+_}
 use mathlib.Core.List.{List, [], _∷_}
 use lib.ListN.{length, getD, take, drop, replicate}
 use Rattle.fnv.specs.declared.Tag.{Tag}
-unfoldable pub use Rattle.lists.specs.Lists.{any, every, find, sameBytes}
+unfoldable pub use Rattle.lists.specs.Lists.{any, every, find, position, sameBytes}
 use Rattle.record.specs.declared.Handle.{Handle}
 
 -- a value of 0 to 256 bytes, with what it is found by
@@ -19,6 +19,8 @@ pub record EscrowKey : Type 0 where
   pub source : ℕ
   pub recipient : ℕ
   pub handle : Handle
+  -- 0, and 1 once the value is released: the entry is then spent, and of no bytes (document 02, P8)
+  pub mark : ℕ
 
 abbrev pub Logged : Type 0
 Logged = Entry LogKey
@@ -53,6 +55,8 @@ pub data Move : Type 0 where
   logs : (entry : Logged) → Move
   -- an entry to the escrow
   escrows : (entry : Escrowed) → Move
+  -- what a source escrowed for a recipient under a handle is given up
+  releases : (source recipient : ℕ) (handle : Handle) → Move
 
 -- an empty place's heap
 unfoldable pub cleared : List ℕ

@@ -1,7 +1,7 @@
 -- The calls on the state: their tests, moves, answer numbers and shown bytes (document 01's table).
 use Prim.Native.Nat.{ℕ, zero, suc, _+_, _*_, _%_, _^_}
 use mathlib.Core.Bool.{Bool, true, false, not, _&&_, _||_, cond}
-use mathlib.Core.List.{List, [], _∷_, _++_}
+use mathlib.Core.List.{List, [], _∷_, _++_, map}
 use mathlib.Core.Option.{Option, none, some}
 use lib.ListN.{length, set, take, drop}
 use lib.Seq.{sets}
@@ -10,9 +10,9 @@ use Rattle.fnv.specs.declared.Tag.{Tag}
 use Rattle.fnv.specs.Fnv.{tagOf}
 use Rattle.record.specs.declared.Handle.{Handle}
 use Rattle.record.specs.declared.Draw.{Draw}
-use Rattle.record.specs.Call.{Call, create, exit, heapWrite, heapRead, sharedWrite, sharedRead, attest, check, protect, retrieve, report, handOver, chain}
+use Rattle.record.specs.Call.{Call, create, exit, heapWrite, heapRead, sharedWrite, sharedRead, attest, check, protect, retrieve, report, handOver, chain, release}
 use Rattle.record.specs.Read.{Reading, refused, whole, read, fromLittle}
-use Rattle.ideal.specs.State.{Entry, Logged, Escrowed, State, Move, nothing, takes, activates, empties, writes, shares, logs, escrows, cleared, identityAt, heapAt, caller, part, ownPart, any, find, sameBytes, bytesUsed}
+use Rattle.ideal.specs.State.{Entry, Logged, Escrowed, State, Move, nothing, takes, activates, empties, writes, shares, logs, escrows, releases, cleared, identityAt, heapAt, caller, part, ownPart, any, find, sameBytes, bytesUsed}
 
 infixr 20 _then_
 -- ---- the log
@@ -45,9 +45,14 @@ withPair e l = cond (paired (e .key .identity) (e .value) l) l (l ++ (e ∷ []))
 
 -- ---- the escrow
 
-unfoldable pub isEscrowed : Handle → ℕ → ℕ → Escrowed → Bool
-isEscrowed h source recipient r =
+-- an entry from a source for a recipient under a handle, spent or not
+unfoldable pub isNamed : Handle → ℕ → ℕ → Escrowed → Bool
+isNamed h source recipient r =
     eqb (r .key .handle .0) (h .0) && (eqb (r .key .source) source && eqb (r .key .recipient) recipient)
+
+-- and unspent
+unfoldable pub isEscrowed : Handle → ℕ → ℕ → Escrowed → Bool
+isEscrowed h source recipient r = isNamed h source recipient r && eqb (r .key .mark) 0
 
 -- what the source escrowed for the running program under the handle
 unfoldable pub found : State → ℕ → Handle → Option Escrowed
@@ -81,6 +86,16 @@ freeFrom (suc n) size draw l =
 
 unfoldable pub freeHandle : ℕ → Draw → List Escrowed → Handle
 freeHandle size draw l = freeFrom 64 size (draw .0) l
+
+-- an entry marked spent, of no bytes
+unfoldable pub spent : Escrowed → Escrowed
+spent r =
+    let k = r .key in
+    record { key = record { source = k .source; recipient = k .recipient; handle = k .handle; mark = 1 }; value = [] }
+
+-- what a release leaves of an entry: it stays, and is spent where it is the one so named
+unfoldable pub givenUp : Handle → ℕ → ℕ → Escrowed → Escrowed
+givenUp h source recipient r = cond (isNamed h source recipient r) (spent r) r
 
 -- ---- refusals: the tests of each kind, rising
 
@@ -206,6 +221,7 @@ tests s report = accept
 -- place 16 has no identity, and is not empty
 tests s (handOver p) = (6, ltb 16 p) then (7, ltb p 16 && vacant s p) then accept
 tests s (chain w i x v) = (4, idle s) then follow (s .log) (found s) 16 (record { way = w; identity = i; number = x }) v
+tests s (release i h) = (4, idle s) then (9, eqb i 0) then (10, absent (found s i h)) then accept
 
 unfoldable pub refusal : State → Call → ℕ
 refusal s c = firstHolding (tests s c)
@@ -216,7 +232,7 @@ refusal s c = firstHolding (tests s c)
 unfoldable pub protected : State → ℕ → ℕ → ℕ → Draw → Escrowed
 protected s recipient o n d =
     record {
-      key = record { source = caller s; recipient = recipient; handle = freeHandle n d (s .escrow) };
+      key = record { source = caller s; recipient = recipient; handle = freeHandle n d (s .escrow); mark = 0 };
       value = ownPart s o n;
     }
 
@@ -234,6 +250,7 @@ move s (retrieve i o h) = writes (s .running) o (valueIn (found s i h))
 move s report = nothing
 move s (handOver p) = activates p
 move s (chain w i x v) = nothing
+move s (release i h) = releases i (caller s) h
 
 -- ---- moves on the state
 
@@ -269,6 +286,7 @@ apply s (writes p o v) = withPlaces s (s .identities) (s .running) (set (s .heap
 apply s (shares o v) = withCommon s (sets (s .shared) o v) (s .log) (s .escrow)
 apply s (logs e) = withCommon s (s .shared) (withPair e (s .log)) (s .escrow)
 apply s (escrows e) = withCommon s (s .shared) (s .log) (s .escrow ++ (e ∷ []))
+apply s (releases i r h) = withCommon s (s .shared) (s .log) (map (givenUp h i r) (s .escrow))
 
 unfoldable pub effect : State → Call → State
 effect s c = apply s (move s c)
@@ -294,6 +312,7 @@ number s (retrieve i o h) = length (valueIn (found s i h))
 number s report = services (s .identities) + 256 * length (s .log) + 65536 * length (s .escrow)
 number s (handOver p) = 0
 number s (chain w i x v) = linksFrom (s .log) (found s) 16 (record { way = w; identity = i; number = x }) v
+number s (release i h) = 0
 
 unfoldable pub shown : State → Call → List ℕ
 shown s (create p i) = []
@@ -309,6 +328,7 @@ shown s (retrieve i o h) = []
 shown s report = []
 shown s (handOver p) = []
 shown s (chain w i x v) = []
+shown s (release i h) = []
 
 -- ---- a step
 

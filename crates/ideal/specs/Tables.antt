@@ -44,14 +44,14 @@ logTable =
 abbrev pub escrowTable : RowsOf EscrowRow EscrowKey
 escrowTable =
     record {
-      row = λ k at n. record { source = k .source; recipient = k .recipient; handle = k .handle; first = at; length = n };
-      key = λ r. record { source = r .source; recipient = r .recipient; handle = r .handle };
+      row = λ k at n. record { source = k .source; recipient = k .recipient; handle = k .handle; first = at; length = n; mark = k .mark };
+      key = λ r. record { source = r .source; recipient = r .recipient; handle = r .handle; mark = r .mark };
       first = λ r. r .first;
       size = λ r. r .length;
-      blank = record { source = 0; recipient = 0; handle = record { 0 = 0 }; first = 0; length = 0 };
+      blank = record { source = 0; recipient = 0; handle = record { 0 = 0 }; first = 0; length = 0; mark = 0 };
       isBlank = λ r.
           eqb (r .source) 0
-          && (eqb (r .recipient) 0 && (eqb (r .handle .0) 0 && (eqb (r .first) 0 && eqb (r .length) 0)));
+          && (eqb (r .recipient) 0 && (eqb (r .handle .0) 0 && (eqb (r .first) 0 && (eqb (r .length) 0 && eqb (r .mark) 0))));
     }
 
 -- unused rows and value bytes are zero

@@ -2,7 +2,7 @@
 -- tests of specs/Soundness.antt. (In `getD l k d`, d stands where there is no entry k.)
 use Prim.Native.Nat.{ℕ, _/_, _^_, _≤_, _<_}
 use mathlib.Core.Path.{_≡_}
-use mathlib.Core.List.{List}
+use mathlib.Core.List.{List, []}
 use lib.ListN.{length, getD}
 use Rattle.fnv.specs.Fnv.{tagOf}
 use Rattle.ideal.specs.State.{Entry, Logged, Escrowed, State, cleared, identityAt, heapAt, bytesUsed}
@@ -18,11 +18,13 @@ pub record GoodLogged (e : Logged) : Type 0 where
   pub identity : e .key .identity ≡ 0 → ⊥
   pub tag : e .key .tag ≡ tagOf (e .key .identity) (e .value)
 
--- identities are non-zero, and the handle carries the length
+-- identities are non-zero, and the mark is 0 or 1; an unspent one's handle carries the length, a spent one has no bytes
 pub record GoodEscrowed (e : Escrowed) : Type 0 where
   pub source : e .key .source ≡ 0 → ⊥
   pub recipient : e .key .recipient ≡ 0 → ⊥
-  pub handle : e .key .handle .0 / 2 ^ 48 ≡ length (e .value)
+  pub mark : e .key .mark ≤ 1
+  pub handle : e .key .mark ≡ 0 → e .key .handle .0 / 2 ^ 48 ≡ length (e .value)
+  pub spent : e .key .mark ≡ 1 → e .value ≡ []
 
 pub record Valid (s : State) : Type 0 where
   pub places : length (s .identities) ≡ 16

@@ -1,6 +1,6 @@
 -- The premises of demand 3 can be met by two lists that differ: a secret byte is written, escrowed from one group program
--- to another and retrieved, while the sender also attests and escrows for an outsider. And the exemption of a group program's
--- own chain calls is needed: their code and their number may tell a byte of what it is given.
+-- to another, retrieved and released, while the sender also attests and escrows for an outsider. And the exemption of a
+-- group program's own chain calls is needed: their code and their number may tell a byte of what it is given.
 use Prim.Native.Nat.{ℕ, _+_, _*_, _^_, _<_}
 use mathlib.Core.Path.{_≡_}
 use mathlib.Core.Bool.{Bool, true, _||_}
@@ -8,7 +8,7 @@ use mathlib.Core.List.{List, [], _∷_, _++_, map}
 use lib.ListN.{length, getD}
 use lib.Dec.{eqb}
 use Rattle.fnv.specs.Fnv.{little}
-use Rattle.record.specs.Call.{Call, create, heapWrite, heapRead, attest, protect, retrieve, report, handOver, chain}
+use Rattle.record.specs.Call.{Call, create, heapWrite, heapRead, attest, protect, retrieve, report, handOver, chain, release}
 use Rattle.record.specs.Write.{write}
 use Rattle.ideal.specs.Tables.{Tables}
 use Rattle.ideal.specs.Step.{handleOf, next, Answer}
@@ -39,6 +39,10 @@ calls b =
     ∷ handOver 2
     ∷ retrieve 1 0 (record { 0 = 2 ^ 48 + 7 })
     ∷ heapRead 2 0 1
+    -- 3 releases that, so that the secret's byte moves down; then 2 releases the secret
+    ∷ release 1 (record { 0 = 2 ^ 48 + 7 })
+    ∷ handOver 1
+    ∷ release 1 (handleOf 1 (next 7))
     ∷ report
     ∷ []
 

@@ -27,6 +27,7 @@ pub struct LogRow {
     pub length: u16,
 }
 
+// The mark is 0, and 1 once the value is released (document 02, P8): a byte, since what a host lends may hold anything.
 #[repr(C)]
 pub struct EscrowRow {
     pub source: u64,
@@ -34,6 +35,7 @@ pub struct EscrowRow {
     pub handle: Handle,
     pub first: u16,
     pub length: u16,
+    pub mark: u8,
 }
 
 // Which box: the full one, or the one for level-one papers (document 02, P5).

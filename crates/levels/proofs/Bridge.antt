@@ -7,7 +7,7 @@ use native.Mathlib.Omega.{arith}
 use lib.Dec.{eqb, ltb}
 use borrow.Author.Tests.{eqb-true, eqb-false, ltb-true, ltb-false, lt-ltb, le-ltb}
 use Rattle.record.specs.declared.Call as code
-use Rattle.record.specs.declared.Call.the-variants.{Create, Exit, HeapWrite, HeapRead, SharedWrite, SharedRead, Attest, Check, Protect, Retrieve, Report, HandOver, Chain}
+use Rattle.record.specs.declared.Call.the-variants.{Create, Exit, HeapWrite, HeapRead, SharedWrite, SharedRead, Attest, Check, Protect, Retrieve, Report, HandOver, Chain, Release}
 use Rattle.record.specs.Meaning.{callIn}
 use Rattle.ideal.specs.declared.Profile.{Profile}
 use Rattle.ideal.specs.declared.Profile.the-variants.{Full, LevelOne}
@@ -68,6 +68,7 @@ module _ (t : Tables) (k : Valid (stateOf t)) (e : tables (stateOf t) ≡ t) whe
   barred-is bytes Report = refl
   barred-is bytes (HandOver p) = in-hand-over p
   barred-is bytes (Chain i f v) = refl
+  barred-is bytes (Release i h) = refl
 
   -- a profile refuses a call by its own refusal, where there is one, and else as the full box does
   pub refused-in : (p : Profile) (bytes : List ℕ) (c : code.Call)

@@ -6,7 +6,7 @@ use types.Run.{OneOf, miss}
 use denote.Enum.Declared.{tagOf}
 use Rattle.record.proofs.Call.{the-type}
 use Rattle.record.specs.declared.Call as code
-use Rattle.record.specs.declared.Call.the-variants.{Create, Exit, HeapWrite, HeapRead, SharedWrite, SharedRead, Attest, Check, Protect, Retrieve, Report, HandOver, Chain}
+use Rattle.record.specs.declared.Call.the-variants.{Create, Exit, HeapWrite, HeapRead, SharedWrite, SharedRead, Attest, Check, Protect, Retrieve, Report, HandOver, Chain, Release}
 use Rattle.ideal.specs.declared.BoxRecord.{BoxRecord}
 use Rattle.ideal.specs.declared.LogRow.{LogRow}
 use Rattle.levels.specs.Narrow.{barredOn}
@@ -30,3 +30,4 @@ none-else b rows heaps values (Retrieve i o h) k = absurd (miss others 9 tt k)
 none-else b rows heaps values Report k = refl
 none-else b rows heaps values (HandOver p) k = absurd (miss others 11 tt k)
 none-else b rows heaps values (Chain i f v) k = absurd (miss others 12 tt k)
+none-else b rows heaps values (Release i h) k = absurd (miss others 13 tt k)

@@ -4,7 +4,7 @@ use mathlib.Core.Bool.{_&&_, cond}
 use mathlib.Core.List.{List}
 use lib.Dec.{eqb, ltb}
 use Rattle.record.specs.declared.Call as code
-use Rattle.record.specs.declared.Call.the-variants.{Create, Exit, HeapWrite, HeapRead, SharedWrite, SharedRead, Attest, Check, Protect, Retrieve, Report, HandOver, Chain}
+use Rattle.record.specs.declared.Call.the-variants.{Create, Exit, HeapWrite, HeapRead, SharedWrite, SharedRead, Attest, Check, Protect, Retrieve, Report, HandOver, Chain, Release}
 use Rattle.ideal.specs.declared.BoxRecord.{BoxRecord}
 use Rattle.ideal.specs.declared.LogRow.{LogRow}
 use Rattle.ideal.specs.declared.Profile.{Profile}
@@ -37,6 +37,7 @@ barredOn b rows heaps values (Retrieve i o h) = 21
 barredOn b rows heaps values Report = 0
 barredOn b rows heaps values (HandOver p) = placeBarred p
 barredOn b rows heaps values (Chain i f v) = 21
+barredOn b rows heaps values (Release i h) = 21
 
 -- what refuses a call before the full box's tests do
 unfoldable pub ownRefusal : Profile → BoxRecord → List LogRow → (heaps values : List ℕ) → code.Call → ℕ

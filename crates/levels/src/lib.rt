@@ -107,6 +107,7 @@ fn barred_with(held: BoxRecord, log: LogTable, heaps: &[u8], values: &[u8], call
         Call::Protect { .. } => 21,
         Call::Retrieve { .. } => 21,
         Call::Chain { .. } => 21,
+        Call::Release { .. } => 21,
         _ => 0,
     }
 }

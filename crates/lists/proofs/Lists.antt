@@ -7,11 +7,11 @@ use mathlib.Core.List.{List, [], _∷_, _++_}
 use mathlib.Core.Option.{Option, none, some}
 use native.Mathlib.Omega.{arith}
 use native.Mathlib.Numerals.{add-one}
-use lib.ListN.{length, getD, take, drop, length-take}
-use lib.Seq.{drop-cons, getD-take}
+use lib.ListN.{length, getD, take, drop, length-take, length-append}
+use lib.Seq.{drop-cons, getD-take, getD-append-seam}
 use lib.Dec.{eqb}
 use borrow.Author.Tests.{eqb-true, eq-eqb}
-use Rattle.lists.specs.Lists.{any, every, find, sameBytes}
+use Rattle.lists.specs.Lists.{any, every, find, position, sameBytes}
 use Rattle.lists.proofs.Bools.{by-cases, and-left, and-right, and-true, or-true-left, or-true-right, or-split, or-false, or-false-left, or-false-right, or-assoc, or-nil, and-assoc, and-nil}
 
 pub same-bytes : (v w : List ℕ) → sameBytes v w ≡ true → v ≡ w
@@ -101,6 +101,45 @@ module _ {A : Type 0} (p : A → Bool) where
   unfolding find any
   none-find [] h = refl
   none-find (b ∷ l) h = rw (or-false-left (p b) _ h) (none-find l (or-false-right (p b) _ h))
+
+  -- the first that passes, with those before it and those after it
+  pub record Split (l : List A) : Type 0 where
+    pub front : List A
+    pub here : A
+    pub rest : List A
+    pub is : l ≡ front ++ (here ∷ rest)
+    pub passes : p here ≡ true
+    pub at : position p l ≡ length front
+
+  pub split : (l : List A) → any p l ≡ true → Split l
+  unfolding any position
+  split [] h = absurd (false≢true h)
+  split (a ∷ l) h =
+      by-cases (p a)
+      (λ e. record { front = []; here = a; rest = l; is = refl; passes = e; at = rw e })
+      (λ e.
+      let r = split l (rw e at h) in
+      let q = r .is in
+      record {
+        front = a ∷ r .front;
+        here = r .here;
+        rest = r .rest;
+        is = λ i. a ∷ q i;
+        passes = r .passes;
+        at = rw (e, r .at);
+      })
+
+  pub position-within : (l : List A) → any p l ≡ true → position p l < length l
+  position-within l h =
+      let s = split l h in
+      let n = ap length (s .is) ∙ length-append (s .front) (s .here ∷ s .rest) in
+      let m = s .at in
+      omega arith
+
+  pub position-passes : (l : List A) (d : A) → any p l ≡ true → p (getD l (position p l) d) ≡ true
+  position-passes l d h =
+      let s = split l h in
+      rw (s .at) (ap (λ m. p (getD m (length (s .front)) d)) (s .is) ∙ rw (getD-append-seam (s .front) (s .here) (s .rest) d) (s .passes))
 
 -- what is left of the first n, one on
 pub one-on : {A : Type 0} (l : List A) (n i : ℕ) (d : A) → i < n → n ≤ length l

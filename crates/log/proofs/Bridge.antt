@@ -10,6 +10,7 @@ use Rattle.fnv.specs.Fnv.{tagOf}
 use Rattle.record.specs.Call.{attest, check}
 use Rattle.ideal.specs.declared.BoxRecord.{BoxRecord}
 use Rattle.ideal.specs.declared.LogRow.{LogRow}
+use Rattle.ideal.specs.declared.EscrowRow.{EscrowRow}
 use Rattle.ideal.specs.State.{LogKey, part}
 use Rattle.ideal.specs.Step.{paired, logged, full, withPair, firstHolding, idle, beyond, tests, refusal, move, apply, effect, number, shown, step}
 use Rattle.ideal.specs.Tables.{Tables, boxRecord, tables, stateOf}
@@ -48,21 +49,24 @@ module _ (b : BoxRecord) (rows : List LogRow) (values : List ℕ) (i : ℕ) (g :
         room = λ h. has-room (b .log) n few (and-other _ (fullBy (b .log) n) (not-is _ h) (failed 12 _ _ e₂));
       }
 
-  attested-edits : {o n : ℕ} → Attests o n → let c = attested b rows values i g v .change in EditsBy b (c .held) (c .edits)
+  attested-edits : (escrow : List EscrowRow) {o n : ℕ} → Attests o n
+      → let c = attested b rows values i g v .change in EditsBy b escrow (c .held) (c .edits)
   unfolding attested
-  attested-edits p =
-      by-cases (logged i g v (logOf b rows values)) (λ h. rw h (no-edits b b refl refl)) (λ h. rw h (log-edits b values v _ (p .room h .row)))
+  attested-edits escrow p =
+      by-cases (logged i g v (logOf b rows values)) (λ h. rw h (no-edits b escrow b refl refl))
+      (λ h. rw h (log-edits b escrow values v _ (p .room h .row)))
 
   attested-answer : attested b rows values i g v .change .answer ≡ acceptedWith (g .0)
   unfolding attested more
   attested-answer = by-cases (logged i g v (logOf b rows values)) (λ h. rw h) (λ h. rw h)
 
 -- a row is put only where one is not used
-pub attest-edits : (b : BoxRecord) (rows : List LogRow) (heaps values : List ℕ) (o n : ℕ) → b .running ≤ 16 → b .log .rows ≤ 64
-    → let c = attestOn b rows heaps values o n .change in EditsBy b (c .held) (c .edits)
+pub attest-edits : (b : BoxRecord) (rows : List LogRow) (escrow : List EscrowRow) (heaps values : List ℕ) (o n : ℕ)
+    → b .running ≤ 16 → b .log .rows ≤ 64
+    → let c = attestOn b rows heaps values o n .change in EditsBy b escrow (c .held) (c .edits)
 unfolding attestOn
-attest-edits b rows heaps values o n runs few =
-    unless-edits b values _ _ (λ e. attested-edits b rows values _ _ _ (attests b rows values _ _ _ o n runs few e))
+attest-edits b rows escrow heaps values o n runs few =
+    unless-edits b values _ escrow _ (λ e. attested-edits b rows values _ _ _ escrow (attests b rows values _ _ _ o n runs few e))
 
 -- it uses no byte of a record, and shows none
 pub attest-alone : (b : BoxRecord) (rows : List LogRow) (heaps values : List ℕ) (o n : ℕ)

@@ -12,16 +12,16 @@ use borrow.Author.Tests.{eqb-true, eqb-false, ne-eqb}
 use Rattle.fnv.specs.declared.Tag.{Tag}
 use Rattle.record.specs.declared.Handle.{Handle}
 use Rattle.record.specs.declared.Draw.{Draw}
-use Rattle.record.specs.Call.{Call, create, exit, heapWrite, heapRead, sharedWrite, sharedRead, attest, check, protect, retrieve, report, handOver, chain}
+use Rattle.record.specs.Call.{Call, create, exit, heapWrite, heapRead, sharedWrite, sharedRead, attest, check, protect, retrieve, report, handOver, chain, release}
 use Rattle.record.specs.Read.{Reading, refused, whole, read}
 use Rattle.ideal.specs.Tables.{Tables, freshTables}
 use Rattle.ideal.specs.Box.{Element, Result, callOn, elementAt, tablesAfter, tablesBefore, answerAt}
 use Rattle.ideal.specs.Refusals.{callerIn, ownBytes}
-use Rattle.ideal.specs.Accuracy.{Earlier, LogsAt, ProtectsAt, HandsOut, Sized, Says}
-use Rattle.paper.specs.Paper.{Command, iattest, icheck, iprotect, iretrieve, Response, tag, truth, handle, value, fails, Event, principalIn, commandOf, given, eventOf, events, behaviour, eventAt}
+use Rattle.ideal.specs.Accuracy.{Earlier, EarlierNot, LogsAt, ProtectsAt, ReleasesAt, HandsOut, Sized, Says}
+use Rattle.paper.specs.Paper.{Command, iattest, icheck, iprotect, iretrieve, irelease, Response, tag, truth, handle, value, released, fails, Event, principalIn, commandOf, given, eventOf, events, behaviour, eventAt}
 use Rattle.lists.proofs.Bools.{by-cases, clash}
 use Rattle.ideal.proofs.Runs.{stateBefore, valid-before, running-before, tables-next, sized-at, accepted-at}
-use Rattle.ideal.proofs.Does.{attest-passed, protect-passed}
+use Rattle.ideal.proofs.Does.{attest-passed, protect-passed, release-passed}
 use Rattle.paper.proofs.Behaviours.{eventsAt, countAt, call-of, event-of, call-before, event-before, in-list}
 
 -- ---- an event, and the call that it is of
@@ -45,6 +45,7 @@ Was t c (iattest v) = WasAttest t c v
 Was t c (icheck p v τ) = c ≡ check p τ v
 Was t c (iprotect q v) = WasProtect t c q v
 Was t c (iretrieve p η o) = c ≡ retrieve p o η
+Was t c (irelease p η) = c ≡ release p η
 
 pub record Executes (t : Tables) (r : Result) (c : Call) (ev : Event) : Type 0 where
   pub was : Was t c (ev .command)
@@ -77,6 +78,7 @@ was t (retrieve i o a) d h = is-command t _ (iretrieve i a o) d h refl
 was t report d h = no-command d h
 was t (handOver p) d h = no-command d h
 was t (chain w i x v) d h = no-command d h
+was t (release i a) d h = is-command t _ (irelease i a) d h refl
 
 executed : (t : Tables) (r : Result) (c : Call) (ev : Event) (x : Option Command) → commandOf (ownBytes t) c ≡ x
     → eventOf t r x ≡ ev ∷ [] → Executes t r c ev
@@ -111,6 +113,7 @@ fails? (tag τ) = false
 fails? (truth b) = false
 fails? (handle η) = false
 fails? (value v) = false
+fails? released = false
 fails? (fails code) = true
 
 pub record Succeeds (code : ℕ) (x y : Response) : Type 0 where
@@ -148,6 +151,7 @@ module _ (es : List Element) where
   pub record EventOf (j : ℕ) (ev : Event) : Type 0 where
     pub index : ℕ
     pub in-list : index < length es
+    pub is : eventsAt callOn freshTables es index ≡ ev ∷ []
     pub count : countAt callOn freshTables es index ≡ j
     pub seen : Seen (tablesBefore callOn es index) (callOn (tablesBefore callOn es index) (elementAt es index))
         (read (elementAt es index .bytes)) ev
@@ -159,6 +163,7 @@ module _ (es : List Element) where
       record {
         index = c .index;
         in-list = in-list callOn es freshTables (c .index) ev (c .is);
+        is = c .is;
         count = c .count;
         seen = seen _ _ _ ev (c .is);
       }
@@ -181,6 +186,37 @@ module _ (es : List Element) where
         before = omega arith;
         there = event-of callOn es freshTables k ev q;
       }
+
+  -- and what no call since does, no event since is of
+  pub event-earlier-not : (j : ℕ) (b : Event) (y : EventOf j b) (P Q : ℕ → Type 0) (ev other : Event)
+      → ((k : ℕ) → P k → eventsAt callOn freshTables es k ≡ ev ∷ []) → ((m : ℕ) (u : EventOf m other) → Q (u .index))
+      → EarlierNot P Q (y .index)
+      → EarlierNot (λ i. eventAt (behaviour callOn es) i ≡ some ev) (λ i. eventAt (behaviour callOn es) i ≡ some other) j
+  unfolding event-earlier
+  event-earlier-not j b y P Q ev other p q x =
+      let e = event-earlier j b y (x .index) ev (x .before) (p (x .index) (x .there)) in
+      record {
+        index = e .index;
+        before = e .before;
+        there = e .there;
+        since = λ m l n h.
+            let u = event-at m other h in
+            let c = u .count in
+            x .since (u .index) (call-before callOn es freshTables (x .index) (u .index) (omega arith))
+            (earlier m j other b u y n) (q m u);
+      }
+
+  -- where no event between two is a third, no call between theirs has it
+  pub none-between : (i j : ℕ) (a b : Event) (x : EventOf i a) (y : EventOf j b) (ev : Event)
+      → ((k : ℕ) → i < k → k < j → eventAt (behaviour callOn es) k ≡ some ev → ⊥)
+      → (m : ℕ) → x .index < m → m < y .index → eventsAt callOn freshTables es m ≡ ev ∷ [] → ⊥
+  unfolding behaviour
+  none-between i j a b x y ev h m l n q =
+      let from = x .count in
+      let to = y .count in
+      let c = event-before callOn es freshTables (x .index) m a (x .is) l in
+      let d = event-before callOn es freshTables m (y .index) ev q n in
+      h (countAt callOn freshTables es m) (omega arith) (omega arith) (event-of callOn es freshTables m ev q)
 
   module _ (j : ℕ) (c : Command) (p : Option ℕ) (r : Response)
       (y : EventOf j (record { command = c; principal = p; result = r })) where
@@ -237,6 +273,18 @@ module _ (es : List Element) where
         by = caller-is _ p (x .seen .did .principal);
         bytes = w .bytes;
         gets = let a : record { 0 = answerAt callOn es (x .index) .number } ≡ η = cc in ap (λ z. z .0) a;
+      }
+
+  pub releases-at : (i p q : ℕ) (η : Handle)
+      (x : EventOf i (record { command = irelease p η; principal = some q; result = released }))
+      → ReleasesAt callOn es p q η (x .index)
+  unfolding fails?
+  releases-at i p q η x =
+      record {
+        used = x .seen .used;
+        reads = reads-as i _ _ _ x _ (x .seen .did .was);
+        accepts = gave i _ _ _ x refl .accepts;
+        by = caller-is _ q (x .seen .did .principal);
       }
 
 -- ---- from the calls of a run to events
@@ -315,3 +363,13 @@ module _ (es : List Element) (k : ℕ) where
   retrieve-event p o used η v reads h =
       call-event (retrieve p o η) used _ reads (h .accepts .0)
       (made t r _ _ _ _ (h .accepts .0) refl refl (ap value (after-retrieve o v h)))
+
+  pub release-event : (p q : ℕ) (η : Handle) → ReleasesAt callOn es p q η k
+      → eventsAt callOn freshTables es k ≡ record { command = irelease p η; principal = some q; result = released } ∷ []
+  unfolding commandOf answerAt
+  release-event p q η l =
+      let c = release p η in
+      let a = accepted-at es k c (l .used) (l .reads) (l .accepts) in
+      let b = release-passed (stateBefore es k) p η (valid-before es k) (a .passes) .runs in
+      call-event c (l .used) _ (l .reads) (l .accepts)
+      (made t r _ _ _ _ (l .accepts) (principal-is t q (runs b) (l .by)) refl refl)

@@ -9,13 +9,13 @@ use lib.Dec.{eqb, ltb}
 use borrow.Author.Tests.{eqb-true, eq-eqb, ltb-true, ltb-false}
 use Rattle.record.specs.declared.Handle.{Handle}
 use Rattle.record.specs.declared.Draw.{Draw}
-use Rattle.record.specs.Call.{attest, protect, retrieve}
+use Rattle.record.specs.Call.{attest, protect, retrieve, release}
 use Rattle.ideal.specs.Step.{idle, tests, firstHolding, refusal}
 use Rattle.ideal.specs.Tables.{Tables, stateOf, freshTables}
 use Rattle.ideal.specs.Box.{Element, callOn, elementAt, tablesBefore, answerAt}
 use Rattle.ideal.specs.Refusals.{ownBytes}
-use Rattle.ideal.specs.Accuracy.{Earlier, ProtectsAt, candidate, handleUsed, FirstFree}
-use Rattle.paper.specs.Paper.{Command, iattest, icheck, iprotect, iretrieve, Response, truth, value, fails, behaviour, needsService, Lemma1-1, Lemma1-2, Lemma2-1, Lemma2-2, OnlyServices, Definition1, Gives, Assumption-i, Assumption-ii, Assumption-iii}
+use Rattle.ideal.specs.Accuracy.{EarlierNot, ProtectsAt, ReleasesAt, candidate, handleUsed, FirstFree}
+use Rattle.paper.specs.Paper.{Command, iattest, icheck, iprotect, iretrieve, irelease, Response, truth, value, fails, behaviour, needsService, Lemma1-1, Lemma1-2, Lemma2-1, Lemma2-2, OnlyServices, Definition1, Gives, Assumption-i, Assumption-ii, Assumption-iii}
 use Rattle.lists.proofs.Bools.{by-cases, clash}
 use Rattle.ideal.proofs.Runs.{stateBefore, running-before, code-at}
 use Rattle.ideal.proofs.Checks.{check-at}
@@ -24,7 +24,7 @@ use Rattle.ideal.proofs.Free.{handle-size}
 use Rattle.ideal.proofs.Handles.{handle-once}
 use Rattle.ideal.proofs.FirstFree.{gives, handle-is-first-free}
 use Rattle.paper.proofs.Behaviours.{event-of}
-use Rattle.paper.proofs.Events.{EventOf, fails?, event-at, earlier, event-earlier, sized, reads-as, gave, logs-at, protects-at, caller-is, runs-none, gave-it, attest-event, check-event, protect-event, retrieve-event, after-retrieve}
+use Rattle.paper.proofs.Events.{EventOf, fails?, event-at, earlier, event-earlier, event-earlier-not, none-between, sized, reads-as, gave, logs-at, protects-at, releases-at, caller-is, runs-none, gave-it, attest-event, check-event, protect-event, retrieve-event, release-event, after-retrieve}
 
 -- ---- Definition 1
 
@@ -36,6 +36,7 @@ definition1 =
       checks = λ es k p n used τ v reads z. event-of callOn es freshTables k _ (check-event es k p n used τ v reads z);
       protects = λ es k p q η v l. event-of callOn es freshTables k _ (protect-event es k p q η v l);
       retrieves = λ es k p o used η v reads h. event-of callOn es freshTables k _ (retrieve-event es k p o used η v reads h);
+      releases = λ es k p q η l. event-of callOn es freshTables k _ (release-event es k p q η l);
     }
 
 -- ---- the lemmas
@@ -64,7 +65,7 @@ lemma1-2 es j v p τ q b =
 
 pub lemma2-1 : Lemma2-1 callOn
 unfolding answerAt
-lemma2-1 es i j v p q η o r l a b fits =
+lemma2-1 es i j v p q η o r l a b kept fits =
     let x = event-at es i _ a in
     let y = event-at es j _ b in
     let k = y .index in
@@ -73,7 +74,13 @@ lemma2-1 es i j v p q η o r l a b fits =
     let out =
     c .hands-out v .1 (
       sized es j _ _ _ y,
-      rw by (record { index = x .index; before = earlier es i j _ _ x y l; there = protects-at es i v p q η x }),
+      rw by
+          (record {
+            index = x .index;
+            before = earlier es i j _ _ x y l;
+            there = protects-at es i v p q η x;
+            since = λ m f g d. none-between es i j _ _ x y _ kept m f g (release-event es m p q η d);
+          }),
       fits,
     ) in
     sym (y .seen .did .result) ∙ gave-it _ _ (out .accepts .0) ∙ ap value (after-retrieve es k o v out)
@@ -90,9 +97,9 @@ lemma2-2 es j v p q η o b =
     let w : ownBytes (callOn (tablesBefore callOn es k) (elementAt es k) .tables) o (answerAt callOn es k .number) ≡ v = cc in
     let same : out .value ≡ v = sym (after-retrieve es k o (out .value) (out .is)) ∙ w in
     let by = caller-is (tablesBefore callOn es k) q (y .seen .did .principal) in
-    let x : Earlier (ProtectsAt callOn es p q η v) k =
+    let x : EarlierNot (ProtectsAt callOn es p q η v) (ReleasesAt callOn es p q η) k =
     rw (same, by) at (retrieve-at es k p o η (y .seen .used) reads .hands-out (out .value) .0 (out .is) .1) in
-    event-earlier es j _ y (x .index) _ (x .before) (protect-event es (x .index) p q η v (x .there))
+    event-earlier-not es j _ y _ _ _ _ (λ m. protect-event es m p q η v) (λ m. releases-at es m p q η) x
 
 -- no service runs
 none-runs : (es : List Element) (j : ℕ) (c : Command) (r : Response)
@@ -123,6 +130,11 @@ only-services es i (iprotect q v) r n h =
 only-services es i (iretrieve p η o) r n h =
     let y = event-at es i _ h in
     let code = code-at es (y .index) (retrieve p o η) (y .seen .used) (reads-as es i _ _ _ y _ (y .seen .did .was))
+    (sized es i _ _ _ y) in
+    gives-four _ _ r (y .seen .did .result) (code ∙ rw (none-runs es i _ r y))
+only-services es i (irelease p η) r n h =
+    let y = event-at es i _ h in
+    let code = code-at es (y .index) (release p η) (y .seen .used) (reads-as es i _ _ _ y _ (y .seen .did .was))
     (sized es i _ _ _ y) in
     gives-four _ _ r (y .seen .did .result) (code ∙ rw (none-runs es i _ r y))
 

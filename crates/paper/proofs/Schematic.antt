@@ -219,7 +219,7 @@ module _ (s : State) (v : Valid s) (q o n : ℕ) (d : Draw) (r : refusal s (prot
         key = refl;
         size = length-own ∙ sym size ∙ ap length (sym owned);
         value = λ e.
-            clash _ (and-true _ _ (eq-eqb _ (η .0) gets) (and-true _ _ (eq-eqb _ p by) (eq-eqb q q refl))) e;
+            clash _ (and-true _ _ (and-true _ _ (eq-eqb _ (η .0) gets) (and-true _ _ (eq-eqb _ p by) (eq-eqb q q refl))) refl) e;
       } in
       record {
         identities = refl;

@@ -24,7 +24,7 @@ use Rattle.ideal.specs.Valid.{Valid}
 use Rattle.paper.specs.ServiceLife.{heapOf, WritesOwnHeap, RunsAt, WritesAt, HandsOver, HandOverKeeps, ExitClears, TenantReadsZeros}
 use Rattle.lists.proofs.Bools.{by-cases, and-left, and-right}
 use Rattle.ideal.proofs.Passing.{failed, passed}
-use Rattle.ideal.proofs.Does.{busy, Does, does-nothing, does-take, does-activate, does-empty, does-write, does-share, does-log, does-escrow, does}
+use Rattle.ideal.proofs.Does.{busy, Does, does-nothing, does-take, does-activate, does-empty, does-write, does-share, does-log, does-escrow, does-release, does}
 use Rattle.ideal.proofs.Laid.{stepElement, valid-sound, tables-state, call-is}
 use Rattle.ideal.proofs.Kept.{valid-step}
 use Rattle.ideal.proofs.Memory.{part-at, taken-at}
@@ -64,6 +64,7 @@ module _ {s : State} (p : ℕ) (v : Valid s) where
   touch-of (does-share f) = keeps refl
   touch-of (does-log a) = keeps refl
   touch-of (does-escrow a) = keeps refl
+  touch-of (does-release a) = keeps refl
 
 touch : (s : State) (p : ℕ) → Valid s → (c : Call) → refusal s c ≡ 0 → Touch s c (move s c) p
 touch s p v c r = touch-of p v (does s c v r)

@@ -20,7 +20,7 @@ use Rattle.ideal.specs.Box.{Element, Result, laid, callOn, elementAt, tablesFro
 use Rattle.ideal.specs.Layouts.{Sound}
 use Rattle.ideal.specs.Refusals.{ownBytes, isRow, isAbsent}
 use Rattle.ideal.specs.Valid.{Valid}
-use Rattle.paper.specs.Paper.{Command, iattest, icheck, iprotect, iretrieve, principalIn, commandOf, eventOf, events, behaviourFrom, OnlyValue, NeverRetrieved, NeverFollowed, AgreeBut, Lemma3}
+use Rattle.paper.specs.Paper.{Command, iattest, icheck, iprotect, iretrieve, irelease, principalIn, commandOf, eventOf, events, behaviourFrom, OnlyValue, NeverRetrieved, NeverFollowed, AgreeBut, Lemma3}
 use Rattle.lists.proofs.Bools.{by-cases, and-left, and-right}
 use Rattle.ideal.proofs.Facts.{facts}
 use Rattle.ideal.proofs.FoundRows.{found-row}
@@ -37,7 +37,7 @@ abbrev pub unretrieved : ℕ → ℕ → Handle → Secrets
 unretrieved p q η =
     record {
       heap = λ _ _. false;
-      value = λ k. eqb (k .handle .0) (η .0) && (eqb (k .source) p && eqb (k .recipient) q);
+      value = λ k. (eqb (k .handle .0) (η .0) && (eqb (k .source) p && eqb (k .recipient) q)) && eqb (k .mark) 0;
       none-empty = λ _. refl;
     }
 
@@ -60,10 +60,11 @@ module _ (p q : ℕ) (η : Handle) where
     recipient : j ≡ q
     handle : h ≡ η
 
-  is-key : (i j : ℕ) (h : Handle) → z .value (record { source = i; recipient = j; handle = h }) ≡ true → IsKey i j h
+  is-key : (i j : ℕ) (h : Handle) → z .value (record { source = i; recipient = j; handle = h; mark = 0 }) ≡ true → IsKey i j h
   is-key i j h e =
-      let a = eqb-true (h .0) (η .0) (and-left _ _ e) in
-      let f = and-right (eqb (h .0) (η .0)) _ e in
+      let named = and-left _ _ e in
+      let a = eqb-true (h .0) (η .0) (and-left _ _ named) in
+      let f = and-right (eqb (h .0) (η .0)) _ named in
       record {
         source = eqb-true i p (and-left _ _ f);
         recipient = eqb-true j q (and-right (eqb i p) _ f);
@@ -76,12 +77,12 @@ module _ (p q : ℕ) (η : Handle) where
         attests = λ g. absurd (false≢true g);
         protects = λ g. absurd (false≢true g);
         retrieves = λ g i o a e r.
-            by-cases (z .value (record { source = i; recipient = caller s; handle = a }))
+            by-cases (z .value (record { source = i; recipient = caller s; handle = a; mark = 0 }))
             (λ y. let k = is-key i (caller s) a y in
             absurd (h .retrieves o (e ∙ (λ m. retrieve (k .source m) o (k .handle m))) (k .recipient) r))
             (λ n. n);
         follows = λ g w i x v e left l rest come way some.
-            by-cases (z .value (record { source = l .identity; recipient = caller s; handle = record { 0 = l .number } }))
+            by-cases (z .value (record { source = l .identity; recipient = caller s; handle = record { 0 = l .number }; mark = 0 }))
             (λ y. let k = is-key (l .identity) (caller s) (record { 0 = l .number }) y in
             let l₁ : l ≡ record { way = 3; identity = p; number = η .0 } =
             λ m. record { way = way m; identity = k .source m; number = k .handle m .0 } in
@@ -155,6 +156,7 @@ module _ (p q : ℕ) (η : Handle) where
   same-events-of t u r w (some (icheck p v τ)) a d e f = rw (a, d)
   same-events-of t u r w (some (iprotect q v)) a d e f = rw (a, d)
   same-events-of t u r w (some (iretrieve p η o)) a d e f = rw (a, d, e, f)
+  same-events-of t u r w (some (irelease p η)) a d e f = rw (a, d)
 
   same-events : (t u : Tables) (r w : Result) (y : Reading) → t .box ≡ u .box → t .heaps ≡ u .heaps → r .answer ≡ w .answer
       → r .tables .box ≡ w .tables .box → r .tables .heaps ≡ w .tables .heaps → events t r y ≡ events u w y

@@ -9,7 +9,7 @@ use lib.Dec.{eqb}
 use Rattle.fnv.specs.declared.Tag.{Tag}
 use Rattle.record.specs.declared.Handle.{Handle}
 use Rattle.record.specs.declared.Draw.{Draw}
-use Rattle.record.specs.Call.{Call, create, exit, heapWrite, heapRead, sharedWrite, sharedRead, attest, check, protect, retrieve, report, handOver, chain}
+use Rattle.record.specs.Call.{Call, create, exit, heapWrite, heapRead, sharedWrite, sharedRead, attest, check, protect, retrieve, report, handOver, chain, release}
 use Rattle.record.specs.Read.{Reading, refused, whole, read}
 use Rattle.ideal.specs.State.{part}
 use Rattle.ideal.specs.Step.{Link}
@@ -17,19 +17,20 @@ use Rattle.ideal.specs.Tables.{Tables, escrowTable, freshTables}
 use Rattle.ideal.specs.Box.{Element, Result, elementAt, tablesBefore, tablesFrom, answersFrom}
 use Rattle.ideal.specs.Layouts.{Sound}
 use Rattle.ideal.specs.Refusals.{callerIn, ownBytes, isRow, isAbsent, rowFor, valueAt, leftAt, leadsOn, namedIn, linkConditions, First}
-use Rattle.ideal.specs.Accuracy.{Earlier, LogsAt, ProtectsAt, Says, HandsOut, handleUsed, HandleOnce, HandleIsFirstFree}
+use Rattle.ideal.specs.Accuracy.{Earlier, EarlierNot, LogsAt, ProtectsAt, ReleasesAt, Says, HandsOut, handleUsed, HandleOnce, HandleIsFirstFree}
 
 -- ---- Definition 1
 
 -- "A command c is an instruction together with a choice of its command arguments." A value v is what the caller's
 -- heap holds in the part that the call names; where there is no such part (4, 11) the call fails, and v means nothing. The
 -- draw is no argument: it stands for iprotect's sampling. A retrieve's offset, which the paper leaves open, says where in its
--- heap the caller wants the value.
+-- heap the caller wants the value. The paper has no release.
 pub data Command : Type 0 where
   iattest : (v : List ℕ) → Command
   icheck : (source : ℕ) (v : List ℕ) (τ : Tag) → Command
   iprotect : (recipient : ℕ) (v : List ℕ) → Command
   iretrieve : (source : ℕ) (η : Handle) (offset : ℕ) → Command
+  irelease : (source : ℕ) (η : Handle) → Command
 
 -- "the result of executing the instruction"; an instruction that fails gives the refusal's number
 pub data Response : Type 0 where
@@ -37,6 +38,7 @@ pub data Response : Type 0 where
   truth : (yes : Bool) → Response
   handle : (η : Handle) → Response
   value : (v : List ℕ) → Response
+  released : Response
   fails : (code : ℕ) → Response
 
 -- "An event is a triple (command, principal, result) of: a command; the executing service principal that causes it (or ⊥ if
@@ -50,7 +52,8 @@ pub record Event : Type 0 where
 unfoldable pub principalIn : Tables → Option ℕ
 principalIn t = cond (eqb (t .box .running) 16) none (some (callerIn t))
 
--- attest, check, protect and retrieve are instructions, where own is the parts of the caller's heap. The other nine kinds are
+-- attest, check, protect and retrieve are instructions, where own is the parts of the caller's heap. The paper has no release
+-- (document 02, P8); it is an instruction here, by which a recipient gives up what it could retrieve. The other nine kinds are
 -- none: they are "normal computational steps", or the auxiliary operations of 5.3; a chain (document 02, P3) is the links of 4.2
 -- followed in one call.
 unfoldable pub commandOf : (own : (offset size : ℕ) → List ℕ) → Call → Option Command
@@ -67,13 +70,15 @@ commandOf own (retrieve i o h) = some (iretrieve i h o)
 commandOf own report = none
 commandOf own (handOver p) = none
 commandOf own (chain w i x v) = none
+commandOf own (release i h) = some (irelease i h)
 
--- what a command gives that is accepted
+-- what a command gives that is accepted; a release gives nothing but that
 abbrev pub given : Result → Command → Response
 given r (iattest v) = tag (record { 0 = r .answer .number })
 given r (icheck p v τ) = truth (eqb (r .answer .number) 1)
 given r (iprotect q v) = handle (record { 0 = r .answer .number })
 given r (iretrieve p η offset) = value (ownBytes (r .tables) offset (r .answer .number))
+given r (irelease p η) = released
 
 -- each command is an event, accepted or refused, where the call gave r on t
 unfoldable pub eventOf : Tables → Result → Option Command → List Event
@@ -109,7 +114,7 @@ eventAt (e ∷ α) (suc i) = eventAt α i
 abbrev pub Occurs : List Event → ℕ → Command → Option ℕ → Response → Type 0
 Occurs α i c p r = eventAt α i ≡ some (record { command = c; principal = p; result = r })
 
--- each accepted attest, check, protect and retrieve of a list is an event, after those of the calls before it
+-- each accepted attest, check, protect, retrieve and release of a list is an event, after those of the calls before it
 pub record Definition1 (box : Tables → Element → Result) : Type 0 where
   pub attests : (es : List Element) (k p : ℕ) (v : List ℕ) (τ : Tag) → LogsAt box es p v τ k
       → Occurs (behaviour box es) (length (behaviour box (take k es))) (iattest v) (some p) (tag τ)
@@ -123,14 +128,21 @@ pub record Definition1 (box : Tables → Element → Result) : Type 0 where
       → read (elementAt es k .bytes) ≡ whole (retrieve p offset η) used → HandsOut box es offset v k
       → Occurs (behaviour box es) (length (behaviour box (take k es))) (iretrieve p η offset)
       (principalIn (tablesBefore box es k)) (value v)
+  pub releases : (es : List Element) (k p q : ℕ) (η : Handle) → ReleasesAt box es p q η k
+      → Occurs (behaviour box es) (length (behaviour box (take k es))) (irelease p η) (some q) released
 
 unfoldable pub needsService : Command → Bool
 needsService (iattest v) = true
 needsService (icheck p v τ) = false
 needsService (iprotect q v) = true
 needsService (iretrieve p η offset) = true
+needsService (irelease p η) = true
 
 -- ---- Lemmas 1 and 2, of every behaviour α of the box
+
+-- at index k of α the recipient q releases what p protected for it under η, and is accepted
+abbrev pub GivesUp : List Event → (p q : ℕ) (η : Handle) → ℕ → Type 0
+GivesUp α p q η k = Occurs α k (irelease p η) (some q) released
 
 module _ (box : Tables → Element → Result) where
   -- "If, for i < j, c_i = iattest(v) and c_j = icheck(P_i, v, r_i), then r_j = true."
@@ -145,20 +157,21 @@ module _ (box : Tables → Element → Result) where
       → let α = behaviour box es in
       Occurs α j (icheck p v τ) q (truth true) → Earlier (λ i. Occurs α i (iattest v) (some p) (tag τ)) j
 
-  -- "If, for i < j, c_i = iprotect(P_j, v) and c_j = iretrieve(P_i, r_i), then r_j = v." Here the value must also fit where
-  -- the caller wants it.
+  -- "If, for i < j, c_i = iprotect(P_j, v) and c_j = iretrieve(P_i, r_i), then r_j = v." Here P_j must also not have released
+  -- the value between, and the value must fit where the caller wants it.
   abbrev pub Lemma2-1 : Type 0
   Lemma2-1 = (es : List Element) (i j : ℕ) (v : List ℕ) (p q : ℕ) (η : Handle) (offset : ℕ) (r : Response)
       → let α = behaviour box es in
       i < j → Occurs α i (iprotect q v) (some p) (handle η) → Occurs α j (iretrieve p η offset) (some q) r
-      → offset + length v ≤ 256 → r ≡ value v
+      → ((k : ℕ) → i < k → k < j → GivesUp α p q η k → ⊥) → offset + length v ≤ 256 → r ≡ value v
 
-  -- "If c_j = iretrieve(p, η) and r_j = v, then for some i < j, c_i = iprotect(P_j, v), P_i = p, and r_i = η."
+  -- "If c_j = iretrieve(p, η) and r_j = v, then for some i < j, c_i = iprotect(P_j, v), P_i = p, and r_i = η." Here P_j
+  -- has also not released the value between.
   abbrev pub Lemma2-2 : Type 0
   Lemma2-2 = (es : List Element) (j : ℕ) (v : List ℕ) (p q : ℕ) (η : Handle) (offset : ℕ)
       → let α = behaviour box es in
       Occurs α j (iretrieve p η offset) (some q) (value v)
-      → Earlier (λ i. Occurs α i (iprotect q v) (some p) (handle η)) j
+      → EarlierNot (λ i. Occurs α i (iprotect q v) (some p) (handle η)) (GivesUp α p q η) j
 
   -- "Any active process can use icheck"; "only a service can execute" the others: where none runs they fail, by 4
   abbrev pub OnlyServices : Type 0
@@ -188,14 +201,16 @@ module _ (box : Tables → Element → Result) where
   abbrev pub Assumption-ii : Type 0
   Assumption-ii = (t u : Tables) (n m : ℕ) (d c : Draw) (η : ℕ) → Gives t n d η → Gives u m c η → n ≡ m
 
-  -- "(iii) The IF does not re-use any handle η; it checks the table entries and resamples in case of collision."
+  -- "(iii) The IF does not re-use any handle η; it checks the table entries and resamples in case of collision." Nor does it
+  -- after a release: the spent entry stays in the table.
   pub record Assumption-iii : Type 0 where
     pub no-re-use : HandleOnce box
     pub resamples : HandleIsFirstFree box
 
 -- ---- Lemma 3: what is escrowed under (η, P_s, P_r), not retrieved and not followed shows nowhere
 
--- two boxes that differ in the value of (η, p, q) alone; its length, which stands in the row, is the same
+-- two boxes that differ in the value of (η, p, q) alone; its length, which stands in the row, is the same. A spent row has no
+-- value: where that of (η, p, q) is spent, no row's value differs.
 pub record OnlyValue (p q : ℕ) (η : Handle) (t u : Tables) : Type 0 where
   pub box : t .box ≡ u .box
   pub heaps : t .heaps ≡ u .heaps
@@ -260,7 +275,8 @@ module _ (box : Tables → Element → Result) where
   -- differ in that value alone afterwards. The draws stand in the elements: they are the host's, and this holds for each choice
   -- of them. So where they are drawn independently of the value (at the protect itself (i) says that this makes no difference),
   -- and other elements are chosen by what was answered, all that is observed is as likely for one value as for another. Part 2
-  -- follows by Bayes' rule; it is not stated here, where nothing is random.
+  -- follows by Bayes' rule; it is not stated here, where nothing is random. The paper has no release: here any may stand in
+  -- the list, also one of that very value, as a release shows nothing of what it gives up; after it no value differs.
   abbrev pub Lemma3 : Type 0
   Lemma3 = (p q : ℕ) (η : Handle) (t u : Tables) (es : List Element) → Sound t 1024 → Sound u 1024 → OnlyValue p q η t u
       → NeverRetrieved p q η t es → NeverFollowed p q η t es → AgreeBut p q η t u es
@@ -274,7 +290,7 @@ module _ (box : Tables → Element → Result) where
     pub is : behaviour box (take index es ++ (before ∷ elementAt es index ∷ after ∷ drop (suc index) es)) ≡ α
 
   -- "1. α_ν[b/ν] is a behavior", for each b of v's length, where ν is the value of the iprotect at i. A chain is no event, so
-  -- that none goes through the value is said of the list.
+  -- that none goes through the value is said of the list. A release is an event, but no value stands in it.
   abbrev pub Lemma3-1 : Type 0
   Lemma3-1 = (es : List Element) (i : ℕ) (v b : List ℕ) (p q : ℕ) (η : Handle)
       → let α = behaviour box es in

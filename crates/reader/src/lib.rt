@@ -157,6 +157,10 @@ fn call_of(kind: u8, f: Fields, bytes: Part) -> Call
             first: first_link(place, number),
             bytes,
         },
+        16 => Call::Release {
+            identity,
+            handle: Handle(number),
+        },
         _ => Call::Report,
     }
 }

@@ -10,7 +10,7 @@ use lib.ListN.{length}
 use borrow.Author.Tests.{eqb-true}
 use Rattle.fnv.specs.Fnv.{little}
 use Rattle.record.specs.declared.Fields.{Fields}
-use Rattle.record.specs.Call.{Call, create, exit, heapWrite, heapRead, sharedWrite, sharedRead, attest, check, protect, retrieve, report, handOver, chain}
+use Rattle.record.specs.Call.{Call, create, exit, heapWrite, heapRead, sharedWrite, sharedRead, attest, check, protect, retrieve, report, handOver, chain, release}
 use Rattle.record.specs.Layout.{Kind, stands, kinds, among, kindOf}
 use Rattle.record.specs.Write.{only, recordOf, filled, recordIn, write}
 use Rattle.record.proofs.FieldLaws.{kept, by-cases}
@@ -60,6 +60,7 @@ made (retrieve i o h) = (_, refl, refl)
 made report = (_, refl, refl)
 made (handOver p) = (_, refl, refl)
 made (chain w i x v) = (_, refl, refl)
+made (release i h) = (_, refl, refl)
 
 -- a field that its map lacks is not written, whatever stands in it
 kept-number : (here : Bool) (n x : ℕ) → only here (little n (cond here x 0)) ≡ only here (little n x)

@@ -21,3 +21,4 @@ pub data Call : Type 0 where
   handOver : (place : ℕ) → Call
   -- the first link's way, identity, and tag or handle; the logged values
   chain : (way identity number : ℕ) (bytes : List ℕ) → Call
+  release : (identity : ℕ) (handle : Handle) → Call

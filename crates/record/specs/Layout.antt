@@ -5,7 +5,7 @@ use mathlib.Core.List.{List, [], _∷_, _++_}
 use mathlib.Core.Option.{Option, none, some}
 use lib.Dec.{eqb}
 use Rattle.record.specs.declared.Fields.{Fields}
-use Rattle.record.specs.Call.{Call, create, exit, heapWrite, heapRead, sharedWrite, sharedRead, attest, check, protect, retrieve, report, handOver, chain}
+use Rattle.record.specs.Call.{Call, create, exit, heapWrite, heapRead, sharedWrite, sharedRead, attest, check, protect, retrieve, report, handOver, chain, release}
 
 -- a bit of the map stands
 unfoldable pub stands : ℕ → ℕ → Bool
@@ -20,8 +20,8 @@ pub record Kind : Type 0 where
 abbrev pub kind : ℕ → ℕ → (Fields → List ℕ → Call) → Kind
 kind number map call = record { number = number; map = map; call = call }
 
--- The number in field 5 is a tag in a check, the draw in a protect, a handle in a retrieve, and in a chain a tag or a handle,
--- as the first way says, which stands in the place field.
+-- The number in field 5 is a tag in a check, the draw in a protect, a handle in a retrieve and a release, and in a chain a
+-- tag or a handle, as the first way says, which stands in the place field.
 unfoldable pub kinds : List Kind
 kinds =
     kind 1 0x07 (λ f v. create (f .place) (f .identity))
@@ -37,13 +37,14 @@ kinds =
     ∷ kind 13 0x01 (λ f v. report)
     ∷ kind 14 0x03 (λ f v. handOver (f .place))
     ∷ kind 15 0x67 (λ f v. chain (f .place) (f .identity) (f .number) v)
+    ∷ kind 16 0x25 (λ f v. release (f .identity) (record { 0 = f .number }))
     ∷ []
 
 unfoldable pub among : List Kind → ℕ → Option Kind
 among [] n = none
 among (k ∷ ks) n = cond (eqb (k .number) n) (some k) (among ks n)
 
--- the kind of a number; none for 0, for 2 and 3, which are retired, and for 16 to 255
+-- the kind of a number; none for 0, for 2 and 3, which are retired, and for 17 to 255
 unfoldable pub kindOf : ℕ → Option Kind
 kindOf n = among kinds n
 

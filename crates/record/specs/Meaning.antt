@@ -7,12 +7,12 @@ use Rattle.record.specs.declared.Part.{Part}
 use Rattle.record.specs.declared.First.{First}
 use Rattle.record.specs.declared.First.the-variants.{Logged, Escrowed, Neither}
 use Rattle.record.specs.declared.Call as code
-use Rattle.record.specs.declared.Call.the-variants.{Create, Exit, HeapWrite, HeapRead, SharedWrite, SharedRead, Attest, Check, Protect, Retrieve, Report, HandOver, Chain}
+use Rattle.record.specs.declared.Call.the-variants.{Create, Exit, HeapWrite, HeapRead, SharedWrite, SharedRead, Attest, Check, Protect, Retrieve, Report, HandOver, Chain, Release}
 use Rattle.record.specs.declared.Reading as found
 use Rattle.record.specs.declared.Reading.the-variants.{Whole, Cut, UnknownKind, WrongMap}
 use Rattle.record.specs.declared.LegalMap as legal
 use Rattle.record.specs.declared.LegalMap.the-variants.{Map, NoSuchKind}
-use Rattle.record.specs.Call.{Call, create, exit, heapWrite, heapRead, sharedWrite, sharedRead, attest, check, protect, retrieve, report, handOver, chain}
+use Rattle.record.specs.Call.{Call, create, exit, heapWrite, heapRead, sharedWrite, sharedRead, attest, check, protect, retrieve, report, handOver, chain, release}
 use Rattle.record.specs.Layout.{OrRefusal, gives, refuses}
 use Rattle.record.specs.Read.{Reading, whole, cut, unknown, wrongMap}
 
@@ -46,6 +46,7 @@ callIn bs (Retrieve i o h) = retrieve i o h
 callIn bs Report = report
 callIn bs (HandOver p) = handOver p
 callIn bs (Chain i f v) = chain (wayIn f) i (numberIn f) (bytesIn bs v)
+callIn bs (Release i h) = release i h
 
 unfoldable pub readingIn : List ℕ → found.Reading → Reading
 readingIn bs (Whole c used) = whole (callIn bs c) used
@@ -78,6 +79,7 @@ CallWithin bs (Retrieve i o h) = Unit {0}
 CallWithin bs Report = Unit {0}
 CallWithin bs (HandOver p) = Unit {0}
 CallWithin bs (Chain i f v) = PartWithin bs v × ByItsWay f
+CallWithin bs (Release i h) = Unit {0}
 
 unfoldable pub ReadingWithin : List ℕ → found.Reading → Type 0
 ReadingWithin bs (Whole c used) = CallWithin bs c × (used ≤ length bs)

@@ -9,7 +9,7 @@ pub fn legal_map(kind: u8) -> LegalMap
     ensures { λ r. ⌜ legalMap r ≡ mapOf kind ⌝ }
 {
     match kind {
-        0 | 2 | 3 | 16..=255 => LegalMap::NoSuchKind,
+        0 | 2 | 3 | 17..=255 => LegalMap::NoSuchKind,
         1 => LegalMap::Map(0x07),
         4 => LegalMap::Map(0x01),
         5 => LegalMap::Map(0x4b),
@@ -23,6 +23,7 @@ pub fn legal_map(kind: u8) -> LegalMap
         13 => LegalMap::Map(0x01),
         14 => LegalMap::Map(0x03),
         15 => LegalMap::Map(0x67),
+        16 => LegalMap::Map(0x25),
     }
 }
 

@@ -80,6 +80,10 @@ pub enum Call {
         first: First,
         bytes: Part,
     },
+    Release {
+        identity: u64,
+        handle: Handle,
+    },
 }
 
 // What the reader finds.

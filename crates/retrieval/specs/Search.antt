@@ -24,3 +24,8 @@ sought none = refuses 10
 unfoldable pub FoundWithin : ℕ → Found → Type 0
 FoundWithin n (At i) = i < n
 FoundWithin n Nothing = Unit {0}
+
+-- its index; n where there is none
+unfoldable pub indexFound : ℕ → Found → ℕ
+indexFound n (At i) = i
+indexFound n Nothing = n

@@ -3,11 +3,12 @@ ghost use mathlib.Core.Path.{_≡_};
 ghost use mathlib.Core.List.{List};
 ghost use Prim.Native.Nat.{ℕ, _≤_};
 ghost use lib.ListN.{length, take};
-ghost use Rattle.ideal.specs.State.{find};
+ghost use Rattle.ideal.specs.State.{find, position};
 ghost use Rattle.ideal.specs.Step.{isEscrowed};
 ghost use Rattle.ideal.specs.Tables.{escrowTable, entryOf, entriesOf};
+ghost use Rattle.ideal.specs.Refusals.{isRow};
 ghost use Rattle.state.specs.Parts.{TableFits};
-ghost use Rattle.retrieval.specs.Search.{entryFound, sought, FoundWithin};
+ghost use Rattle.retrieval.specs.Search.{entryFound, sought, FoundWithin, indexFound};
 ghost use Rattle.retrieval.specs.Narrow.{retrieveAnswer, retrieveHeaps};
 use buffers::put;
 use ideal::BoxRecord;
@@ -24,7 +25,7 @@ pub enum Found {
     Nothing,
 }
 
-// Whether a row has this handle, source and recipient.
+// Whether a row has this handle, source and recipient, and is unspent.
 fn row_is(row: EscrowRow, handle: Handle, source: u64, recipient: u64) -> bool
     ensures { λ r. ⌜ ((values : List ℕ) → r ≡ isEscrowed handle source recipient (entryOf escrowTable values row)) ⌝ }
 {
@@ -34,10 +35,13 @@ fn row_is(row: EscrowRow, handle: Handle, source: u64, recipient: u64) -> bool
     if row.source != source {
         return false;
     }
-    row.recipient == recipient
+    if row.recipient != recipient {
+        return false;
+    }
+    row.mark == 0
 }
 
-// The first of the first n rows with this handle, source and recipient.
+// The first of the first n rows that is unspent and has this handle, source and recipient.
 pub fn find_row(
     rows: [EscrowRow; 64],
     n: usize,
@@ -48,6 +52,7 @@ pub fn find_row(
     requires { ⌜ n ≤ 64 ⌝ }
     ensures { λ r. ⌜ FoundWithin n r ⌝ }
     ensures { λ r. ⌜ ((values : List ℕ) → entryFound values rows r ≡ sought (find (isEscrowed handle source recipient) (entriesOf escrowTable values (take n rows)))) ⌝ }
+    ensures { λ r. ⌜ indexFound n r ≡ position (isRow handle source recipient) (take n rows) ⌝ }
 {
     let mut i: usize = 0;
     while i < n {

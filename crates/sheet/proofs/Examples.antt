@@ -98,13 +98,13 @@ pub cut-example : CutExample
 unfolding cutScript hex
 cut-example = on-fresh Full 19 cutScript refl refl cut-computed
 
-level-one-computed : header ++ linesOn levelOneRefusal 221 fresh levelOneScript ≡ levelOneSheet
+level-one-computed : header ++ linesOn levelOneRefusal 239 fresh levelOneScript ≡ levelOneSheet
 unfolding levelOneScript levelOneSheet hex mixed fnvFrom fnv1a little tagOf linesOn bytesOf digitOf decimalIn decimal hexadecimal shownText spaced line header lastCode stops stands kinds among kindOf fromLittle field contents bytesField fields readFields readKind afterMap read cut cleared fresh ownPart any sameBytes bytesUsed isPair isLogged paired logged full withPair firstHolding idle vacant beyond tests putAfter isOther loggedOther levelOneTests levelOneRefusal move apply effect services number shown refusedAnswer refuse accepted settle stepBy readingBy stepOnBy
 level-one-computed = refl
 
 pub level-one-example : LevelOneExample
 unfolding levelOneScript hex
-level-one-example = on-fresh LevelOne 221 levelOneScript refl refl level-one-computed
+level-one-example = on-fresh LevelOne 239 levelOneScript refl refl level-one-computed
 
 pub too-long-line : TooLongLine
 unfolding tooLong bytesOf digitOf decimalIn decimal shownText spaced line refusedAnswer

@@ -48,7 +48,7 @@ CutExample = sheet callOn cutScript ≡ cutSheet
 
 -- a level-one paper: creates at 0, at 3, at 4 (22, with identity 0 too) and at 16 (6); a protect while none runs (21); a
 -- hand over and a heap write; an attest, the same again, one of another value (23) and one beyond the heap (11); a check;
--- protect, retrieve and chain (21); a heap read; hand overs to 3 and to 4 (22); an exit; a hand over to 16; a report; a
+-- protect, retrieve, chain and release (21); a heap read; hand overs to 3 and to 4 (22); an exit; a hand over to 16; a report; a
 -- protect cut after its kind, for which 1 comes before 21
 unfoldable pub levelOneScript : List ℕ
 levelOneScript =
@@ -59,7 +59,8 @@ levelOneScript =
     ++ hex 21 0x65_0A_0100000000000000_1FA2F58FDC6D9A52_0100_41
     ++ hex 22 0x3D_0B_0100000000000000_0000_0100_0700000000000000
     ++ hex 20 0x2D_0C_0100000000000000_0000_0700000000000100
-    ++ hex 24 0x67_0F_02_0100000000000000_1FA2F58FDC6D9A52_0300_010041 ++ hex 7 0x1B_06_00_0000_0100
+    ++ hex 24 0x67_0F_02_0100000000000000_1FA2F58FDC6D9A52_0300_010041
+    ++ hex 18 0x25_10_0100000000000000_0700000000000100 ++ hex 7 0x1B_06_00_0000_0100
     ++ hex 3 0x03_0E_03 ++ hex 3 0x03_0E_04 ++ hex 2 0x01_04 ++ hex 3 0x03_0E_10 ++ hex 2 0x01_0D ++ hex 2 0x3D_0B
 
 unfoldable pub levelOneSheet : List ℕ
@@ -68,9 +69,9 @@ levelOneSheet =
     ++ bytesOf "22 0 11 -\n" ++ bytesOf "6 0 11 -\n" ++ bytesOf "21 0 22 -\n" ++ bytesOf "0 0 3 -\n"
     ++ bytesOf "0 1 8 -\n" ++ bytesOf "0 5952190651599004191 6 -\n" ++ bytesOf "0 5952190651599004191 6 -\n"
     ++ bytesOf "23 0 6 -\n" ++ bytesOf "11 0 6 -\n" ++ bytesOf "0 1 21 -\n" ++ bytesOf "21 0 22 -\n"
-    ++ bytesOf "21 0 20 -\n" ++ bytesOf "21 0 24 -\n" ++ bytesOf "0 1 7 41\n" ++ bytesOf "0 0 3 -\n"
-    ++ bytesOf "22 0 3 -\n" ++ bytesOf "0 0 2 -\n" ++ bytesOf "0 0 3 -\n" ++ bytesOf "0 257 2 -\n"
-    ++ bytesOf "1 8 0 -\n"
+    ++ bytesOf "21 0 20 -\n" ++ bytesOf "21 0 24 -\n" ++ bytesOf "21 0 18 -\n" ++ bytesOf "0 1 7 41\n"
+    ++ bytesOf "0 0 3 -\n" ++ bytesOf "22 0 3 -\n" ++ bytesOf "0 0 2 -\n" ++ bytesOf "0 0 3 -\n"
+    ++ bytesOf "0 257 2 -\n" ++ bytesOf "1 8 0 -\n"
 
 abbrev pub LevelOneExample : Type 0
 LevelOneExample = sheet levelOneOn levelOneScript ≡ levelOneSheet

@@ -1,10 +1,11 @@
 // The escrow: its rows and value bytes.
 ghost use mathlib.Core.Path.{_≡_};
+ghost use mathlib.Core.Bool.{_&&_};
 ghost use mathlib.Core.List.{List, []};
 ghost use Prim.Native.Nat.{ℕ, _/_, _^_, _≤_};
 ghost use lib.ListN.{length, take};
 ghost use Rattle.ideal.specs.Tables.{escrowTable, entriesOf};
-ghost use Rattle.ideal.specs.Soundness.{sameHandle};
+ghost use Rattle.ideal.specs.Soundness.{sameHandle, rightMark, carriesLength};
 ghost use Rattle.soundness.specs.Tests.{rowSound, bytesAndRows, differBefore, escrowRowRight, escrowSound};
 use buffers::all_zero;
 use handles::handle_in;
@@ -18,6 +19,19 @@ fn length_of(handle: Handle) -> u64
     ensures { λ r. ⌜ r ≡ handle .0 / 2 ^ 48 ⌝ }
 {
     handle.0 >> 48
+}
+
+// Whether the mark is 0, and the handle carries the row's length; or the mark is 1, and the length 0.
+fn length_right(row: EscrowRow) -> bool
+    ensures { λ r. ⌜ r ≡ rightMark row && carriesLength row ⌝ }
+{
+    if row.mark == 0 {
+        return length_of(row.handle) == row.length as u64;
+    }
+    if row.mark != 1 {
+        return false;
+    }
+    row.length == 0
 }
 
 // Whether a row begins at `at` and is right by itself.
@@ -36,7 +50,7 @@ fn row_sound(row: EscrowRow, at: usize) -> bool
     if row.recipient == 0 {
         return false;
     }
-    length_of(row.handle) == row.length as u64
+    length_right(row)
 }
 
 // Whether the value bytes from `end` on are 0, the first n rows right and one after the other, from 0 to `end`, and the rest
@@ -65,15 +79,17 @@ fn rows_sound(rows: [EscrowRow; 64], n: usize, end: usize, values: &[u8]) -> boo
     let mut recipients: u64 = 0;
     let mut handles: u64 = 0;
     let mut places: u64 = 0;
+    let mut marks: u64 = 0;
     while i < 64 {
         let row = rows[i];
         sources = sources | row.source;
         recipients = recipients | row.recipient;
         handles = handles | row.handle.0;
         places = places | (row.first as u64 + row.length as u64 * 65536);
+        marks = marks | row.mark as u64;
         i += 1;
     }
-    let all = ((sources | recipients) | handles) | places;
+    let all = (((sources | recipients) | handles) | places) | marks;
     all == 0
 }
 

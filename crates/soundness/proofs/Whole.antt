@@ -13,7 +13,7 @@ use Rattle.ideal.specs.declared.LogRow.{LogRow}
 use Rattle.ideal.specs.declared.EscrowRow.{EscrowRow}
 use Rattle.ideal.specs.State.{Entry, every}
 use Rattle.ideal.specs.Tables.{Tables, RowsOf, logTable, escrowTable, takenMap, chunks, entryOf, entriesOf, stateOf}
-use Rattle.ideal.specs.Soundness.{pass, sizesRight, runningTaken, allZero, emptyHeapsZero, chained, short, hasIdentity, hasIdentities, rightTag, carriesLength, sameHandle, soundTests, sound}
+use Rattle.ideal.specs.Soundness.{pass, sizesRight, runningTaken, allZero, emptyHeapsZero, chained, short, hasIdentity, hasIdentities, rightTag, rightMark, carriesLength, sameHandle, soundTests, sound}
 use Rattle.lists.proofs.Bools.{and-left, and-right, and-true}
 use Rattle.ideal.proofs.Table.{Stands}
 use Rattle.ideal.proofs.Facts.{Facts, facts, facts-sound, every-both}
@@ -97,9 +97,12 @@ module _ (values : List ℕ) (rs : List LogRow) where
       (every-both inside tagged (λ r. inside r && tagged r) (λ r. refl) rs
       ∙ rw (chain-within logTable end 0 (length values) rs h c .1, every-entry logTable values rightTag rs))
 
-escrow-each : (rs : List EscrowRow) → every escrowRowRight rs ≡ every hasIdentities rs && every carriesLength rs
+escrow-each : (rs : List EscrowRow)
+    → every escrowRowRight rs ≡ every hasIdentities rs && (every rightMark rs && every carriesLength rs)
 unfolding escrowRowRight
-escrow-each rs = every-both hasIdentities carriesLength escrowRowRight (λ r. refl) rs
+escrow-each rs =
+    every-both hasIdentities (λ r. rightMark r && carriesLength r) escrowRowRight (λ r. refl) rs
+    ∙ ap (λ b. every hasIdentities rs && b) (every-both rightMark carriesLength (λ r. rightMark r && carriesLength r) (λ r. refl) rs)
 
 -- ---- the whole box
 
@@ -125,6 +128,7 @@ module _ (b : BoxRecord) (log : LogTable) (escrow : EscrowTable) (heaps logValue
       let escrowRows = take (b .escrow .rows) (escrow .rows) in
       let li = sym (log-each logValues logRows (b .log .bytes) (omega (arith, l .stands .fits, lent .logBytes)) (l .stands .chain)) ∙ l .each in
       let ei = sym (escrow-each escrowRows) ∙ e .each in
+      let right = and-right (every hasIdentities escrowRows) _ ei in
       let tags = and-right (every hasIdentity logRows) _ li in
       record {
         places = counted .identities;
@@ -142,7 +146,8 @@ module _ (b : BoxRecord) (log : LogTable) (escrow : EscrowTable) (heaps logValue
         pairs-differ = sym (pairs-differ _ tags) ∙ l .apart;
         tags = tags;
         handles-differ = sym (handles-differ _) ∙ e .apart;
-        lengths = and-right (every hasIdentities escrowRows) _ ei;
+        marks = and-left (every rightMark escrowRows) _ right;
+        lengths = and-right (every rightMark escrowRows) _ right;
       }
 
   facts-parts : Facts t → parts ≡ true
@@ -165,7 +170,7 @@ module _ (b : BoxRecord) (log : LogTable) (escrow : EscrowTable) (heaps logValue
       (record {
         stands = f .escrow;
         short-rows = f .escrow-short;
-        each = escrow-each escrowRows ∙ and-true _ _ (f .escrow-identities) (f .lengths);
+        each = escrow-each escrowRows ∙ and-true _ _ (f .escrow-identities) (and-true _ _ (f .marks) (f .lengths));
         apart = handles-differ _ ∙ f .handles-differ;
       }) in
       rw (f .runs, eq-eqb _ _ (f .map), f .empty, l, e)

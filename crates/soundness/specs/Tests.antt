@@ -13,7 +13,7 @@ use Rattle.ideal.specs.declared.EscrowRow.{EscrowRow}
 use Rattle.ideal.specs.State.{Entry, Logged, any, every}
 use Rattle.ideal.specs.Step.{isLogged}
 use Rattle.ideal.specs.Tables.{RowsOf, logTable, escrowTable, entryOf, entriesOf, takenMap, chunks}
-use Rattle.ideal.specs.Soundness.{done, _and_, pass, runningTaken, allZero, emptyHeapsZero, sameHandle, hasIdentity, hasIdentities, rightTag, carriesLength}
+use Rattle.ideal.specs.Soundness.{done, _and_, pass, runningTaken, allZero, emptyHeapsZero, sameHandle, hasIdentity, hasIdentities, rightTag, rightMark, carriesLength}
 
 -- ---- places
 
@@ -79,11 +79,12 @@ logBits r = bitOr (bitOr (r .identity) (r .tag .0)) (r .first + r .length * 6553
 -- ---- the escrow
 
 unfoldable pub escrowRowRight : EscrowRow → Bool
-escrowRowRight r = hasIdentities r && carriesLength r
+escrowRowRight r = hasIdentities r && (rightMark r && carriesLength r)
 
 unfoldable pub escrowSound : List EscrowRow → List ℕ → Used → Bool
 escrowSound rows values used = tableSound escrowTable escrowRowRight sameHandle rows values used
 
 -- zero just where the row is blank
 unfoldable pub escrowBits : EscrowRow → ℕ
-escrowBits r = bitOr (bitOr (bitOr (r .source) (r .recipient)) (r .handle .0)) (r .first + r .length * 65536)
+escrowBits r =
+    bitOr (bitOr (bitOr (bitOr (r .source) (r .recipient)) (r .handle .0)) (r .first + r .length * 65536)) (r .mark)

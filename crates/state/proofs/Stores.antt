@@ -5,6 +5,7 @@ use mathlib.Core.List.{List, [], _∷_, _++_}
 use lib.ListN.{length}
 use Rattle.record.specs.Call.{Call}
 use Rattle.ideal.specs.declared.BoxRecord.{BoxRecord}
+use Rattle.ideal.specs.declared.EscrowRow.{EscrowRow}
 use Rattle.ideal.specs.State.{LogKey, EscrowKey, Logged, Escrowed, State}
 use Rattle.ideal.specs.Step.{withCommon, refusal, step}
 use Rattle.ideal.specs.Tables.{Tables, boxRecord, tables, stateOf}
@@ -14,7 +15,7 @@ use Rattle.ideal.proofs.More.{row-added, value-added, counts-raised}
 use Rattle.state.specs.declared.Answer.{Answer}
 use Rattle.state.specs.Answers.{refusedWith, acceptedWith, settled}
 use Rattle.state.specs.Counts.{Room}
-use Rattle.state.specs.Edits.{EditsBy, Stored, kept, changed, unless, logStore, escrowStore, more}
+use Rattle.state.specs.Edits.{counted, EditsBy, Stored, kept, changed, unless, logStore, escrowStore, more}
 use Rattle.state.proofs.Edited.{no-edits, none-put, one-put}
 use Rattle.state.proofs.Lowered.{no-fall}
 use Rattle.state.proofs.Settled.{answerOf, ShowsNone, settledResult, Moves, laid-step}
@@ -22,11 +23,11 @@ use Rattle.state.proofs.Settled.{answerOf, ShowsNone, settledResult, Mo
 -- ---- a call that leaves x, unless it is refused
 
 module _ (b : BoxRecord) (values : List ℕ) (x : Stored) where
-  pub unless-edits : (r : ℕ) → (r ≡ 0 → EditsBy b (x .change .held) (x .change .edits))
-      → let c = unless r b values x .change in EditsBy b (c .held) (c .edits)
+  pub unless-edits : (escrow : List EscrowRow) (r : ℕ) → (r ≡ 0 → EditsBy b escrow (x .change .held) (x .change .edits))
+      → let c = unless r b values x .change in EditsBy b escrow (c .held) (c .edits)
   unfolding unless settled
-  unless-edits zero h = h refl
-  unless-edits (suc r) h = no-edits b b refl refl
+  unless-edits escrow zero h = h refl
+  unless-edits escrow (suc r) h = no-edits b escrow b refl refl
 
   -- it uses no byte of a record, and shows none
   pub unless-alone : {n : ℕ} (r : ℕ) → x .change .answer ≡ acceptedWith n → ShowsNone (unless r b values x .change .answer)
@@ -59,14 +60,15 @@ abbrev pub onEscrow : Tables → Stored → Tables
 onEscrow t x = changed t (x .change) (t .heaps) (t .shared) (t .logValues) (x .values)
 
 -- a row is put only where one is not used
-module _ (b : BoxRecord) (values v : List ℕ) where
-  pub log-edits : (k : LogKey) → b .log .rows < 64 → let c = more logStore b values k v .change in EditsBy b (c .held) (c .edits)
+module _ (b : BoxRecord) (escrow : List EscrowRow) (values v : List ℕ) where
+  pub log-edits : (k : LogKey) → b .log .rows < 64 → let c = more logStore b values k v .change in EditsBy b escrow (c .held) (c .edits)
   unfolding more
-  log-edits k h = record { log = one-put _ _ _ (length v) _ refl h; escrow = none-put _ _ _ refl }
+  log-edits k h = record { log = one-put _ _ _ (length v) _ refl h; escrow = counted (none-put _ _ _ refl) }
 
-  pub escrow-edits : (k : EscrowKey) → b .escrow .rows < 64 → let c = more escrowStore b values k v .change in EditsBy b (c .held) (c .edits)
+  pub escrow-edits : (k : EscrowKey) → b .escrow .rows < 64
+      → let c = more escrowStore b values k v .change in EditsBy b escrow (c .held) (c .edits)
   unfolding more
-  escrow-edits k h = record { log = none-put _ _ _ refl; escrow = one-put _ _ _ (length v) _ refl h }
+  escrow-edits k h = record { log = none-put _ _ _ refl; escrow = counted (one-put _ _ _ (length v) _ refl h) }
 
 module _ (s : State) where
   pub log-added : (e : Logged) → Room (tables s .box .log) (length (e .value))

@@ -3,7 +3,7 @@ use Prim.Native.Nat.{ℕ, _+_, _-_, _<_}
 use mathlib.Core.Path.{_≡_}
 use mathlib.Core.Bool.{Bool, true, false, cond}
 use mathlib.Core.List.{List, _++_, map}
-use lib.ListN.{length, set, take, drop}
+use lib.ListN.{length, getD, set, take, drop}
 use lib.Seq.{sets}
 use lib.Dec.{ltb}
 use Rattle.ideal.specs.declared.BoxRecord.{BoxRecord}
@@ -12,6 +12,7 @@ use Rattle.ideal.specs.declared.LogRow.{LogRow}
 use Rattle.ideal.specs.declared.EscrowRow.{EscrowRow}
 use Rattle.ideal.specs.State.{LogKey, EscrowKey}
 use Rattle.ideal.specs.Tables.{RowsOf, Tables, logTable, escrowTable}
+use Rattle.ideal.specs.OneCall.{spentRow}
 use Rattle.state.specs.declared.LogTable.{LogTable}
 use Rattle.state.specs.declared.EscrowTable.{EscrowTable}
 use Rattle.state.specs.declared.Answer.{Answer}
@@ -67,20 +68,41 @@ noEdits = record { log = noLogEdit; escrow = noEscrowEdit }
 abbrev pub unchanged : BoxRecord → Answer → Change
 unchanged b a = record { held = b; edits = noEdits; answer = a }
 
--- ---- the edits of a call, by the box records before and after it
+-- ---- the edits of a call, by the box records before and after it, and the escrow's rows before it
 
--- a row is put where the used rows are one more, at the first that was not used; else a blank row stands for it. First bytes
--- fall as the used bytes do
+-- a row is put where the used rows are one more, at the first that was not used; else a blank row stands for it. No first byte
+-- falls
 pub record EditBy {Row : Type 0} (blank : Row) (before after : Used) (put : Bool) (at : ℕ) (row : Row) (fall : ℕ) : Type 0 where
   pub rises : put ≡ ltb (before .rows) (after .rows)
   pub place : at ≡ cond put (before .rows) 0
-  pub falls : fall ≡ before .bytes - after .bytes
+  pub still : fall ≡ 0
   pub fits : Fits put at 64
   pub none : put ≡ false → row ≡ blank
 
-pub record EditsBy (before after : BoxRecord) (e : Edits) : Type 0 where
+-- an edit that puts back the row r, released: first bytes fall by its length
+abbrev pub spending : (at : ℕ) → EscrowRow → EscrowEdit
+spending at r = record { put = true; at = at; row = spentRow r; fall = r .length }
+
+-- the counts with so many bytes less
+abbrev pub lessened : Used → (n : ℕ) → Used
+lessened used n = record { rows = used .rows; bytes = used .bytes - n }
+
+-- a used row that was not spent is put back, released, and the used bytes fall by its length
+pub record Spends (rows : List EscrowRow) (before after : Used) (e : EscrowEdit) : Type 0 where
+  pub used : e .at < before .rows
+  pub fits : e .at < 64
+  pub unspent : getD rows (e .at) (escrowTable .blank) .mark ≡ 0
+  pub edit : e ≡ spending (e .at) (getD rows (e .at) (escrowTable .blank))
+  pub counts : after ≡ lessened before (getD rows (e .at) (escrowTable .blank) .length)
+
+-- by the counts, or by a release, of the escrow's rows before it
+pub data EscrowEditBy (rows : List EscrowRow) (before after : Used) (e : EscrowEdit) : Type 0 where
+  counted : EditBy (escrowTable .blank) before after (e .put) (e .at) (e .row) (e .fall) → EscrowEditBy rows before after e
+  spends : Spends rows before after e → EscrowEditBy rows before after e
+
+pub record EditsBy (before : BoxRecord) (rows : List EscrowRow) (after : BoxRecord) (e : Edits) : Type 0 where
   pub log : EditBy (logTable .blank) (before .log) (after .log) (e .log .put) (e .log .at) (e .log .row) (e .log .fall)
-  pub escrow : EditBy (escrowTable .blank) (before .escrow) (after .escrow) (e .escrow .put) (e .escrow .at) (e .escrow .row) (e .escrow .fall)
+  pub escrow : EscrowEditBy rows (before .escrow) (after .escrow) (e .escrow)
 
 -- ---- a call on one table
 

@@ -44,6 +44,7 @@ pub fn blank_escrow_row() -> EscrowRow
         handle: Handle(0),
         first: 0,
         length: 0,
+        mark: 0,
     }
 }
 

@@ -74,7 +74,7 @@ pub fn next_line(
         (now (rest .entry)))
         (now (out .entry)) (now (out .exit)) (r .size)
         ⌝ }
-    ensures { λ r. ⌜ EditsBy held (r .held) (r .edits) ⌝ }
+    ensures { λ r. ⌜ EditsBy held (escrow .rows) (r .held) (r .edits) ⌝ }
 {
     let mut output = [0u8; 1024];
     let change = calls::call_sound(

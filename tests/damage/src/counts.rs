@@ -2,7 +2,7 @@
 
 use std::process::ExitCode;
 
-use differential::{Chains, Draws, HandOvers, Held, LevelOne, Missing, Traced};
+use differential::{Chains, Draws, HandOvers, Held, LevelOne, Missing, Releases, Traced};
 use interface::{Both, Sides, Tally};
 use second::Answer;
 
@@ -14,6 +14,10 @@ const CHAINS: u64 = 20;
 
 /// More protects of each sort than this are accepted on sound boxes.
 const DRAWS: u64 = 50;
+
+/// More releases of each sort than this, and calls on which they bear, are made on sound
+/// boxes.
+const RELEASES: u64 = 50;
 
 /// More cut records that miss 1 to 8 bytes, of each sort, and that miss more.
 const CUT: u64 = 100;
@@ -58,6 +62,7 @@ pub struct Counts {
     hand_overs: HandOvers,
     chains: Chains,
     draws: Draws,
+    releases: Releases,
     level_one: LevelOne,
     /// Calls with code 1, by what the record misses.
     missing: Missing,
@@ -110,6 +115,7 @@ impl Counts {
         self.hand_overs.add(running, record, full.code.into());
         self.chain(sides, record, full);
         self.handle(sides, record, full);
+        self.release(sides, record, full);
         self.follows(sides, record, full.code, level_one.code);
         Some(both)
     }
@@ -147,6 +153,17 @@ impl Counts {
         self.tally.check(follows, || format!("a handle on these tables: {record:02x?}"));
     }
 
+    /// The answer to a release, and those on which releases bear, follow from what the
+    /// tables held before it.
+    fn release(&mut self, sides: &Sides, record: &[u8], answer: &Answer) {
+        if answer.used == 0 || !matches!(record[1], 11 | 12 | 13 | 16) {
+            return;
+        }
+        let traced = Traced::of(&sides.second);
+        let follows = self.releases.add(&traced, record, answer.code, answer.number);
+        self.tally.check(follows, || format!("{answer:?} on these tables: {record:02x?}"));
+    }
+
     /// One writing, and whether both sides agree.
     pub fn writing(&mut self, code: u8, agrees: bool, what: impl Fn() -> String) {
         self.calls += 1;
@@ -182,8 +199,8 @@ impl Counts {
         }
     }
 
-    /// Hand overs of each sort were met, chains, protects, cut records and level-one
-    /// calls.
+    /// Hand overs of each sort were met, chains, protects, releases, cut records and
+    /// level-one calls.
     pub fn summary(mut self) -> ExitCode {
         println!("{}", self.hand_overs);
         let often = self.hand_overs.each_above(HAND_OVERS);
@@ -194,6 +211,9 @@ impl Counts {
         println!("{}", self.draws);
         let often = self.draws.each_above(DRAWS);
         self.tally.check(often, || format!("protects of each sort above {DRAWS}"));
+        println!("{}", self.releases);
+        let often = self.releases.each_above(RELEASES);
+        self.tally.check(often, || format!("releases of each sort above {RELEASES}"));
         println!("{}", self.level_one);
         let often = self.level_one.each_above(LEVEL_ONE);
         self.tally.check(often, || format!("level-one calls of each sort above {LEVEL_ONE}"));

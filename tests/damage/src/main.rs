@@ -4,9 +4,9 @@
 //!     damage CALLS
 //!
 //! Each record is called under both profiles, the full box and level one. First what
-//! has a plan: each damage, each pair of them, each wrong size, each cut of a record,
-//! hand-made boxes for level one. Then random boxes and records until CALLS calls are
-//! made.
+//! has a plan: each damage, each pair of them, each wrong size, each mark and length of a
+//! row, each cut of a record, hand-made boxes for level one. Then random boxes and records
+//! until CALLS calls are made.
 
 #![forbid(unsafe_code)]
 
@@ -32,6 +32,8 @@ fn main() -> ExitCode {
     planned::sizes(&mut counts);
     planned::damages_alone(&mut counts);
     planned::damages_in_pairs(&mut counts);
+    planned::marks(&mut counts);
+    planned::spent_rows(&mut counts);
     planned::cuts(&mut counts);
     planned::contents_cut(&mut counts);
     planned::cuts_followed(&mut counts);

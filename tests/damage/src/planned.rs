@@ -1,10 +1,13 @@
-//! Each damage alone, each pair of damages, each wrong size, each cut of a record.
+//! Each damage alone, each pair of damages, each wrong size, each mark and length of a
+//! row, each cut of a record.
 
-use differential::calls::{attest, chain, create, hand_over, record_of};
+use differential::calls::{
+    attest, chain, create, hand_over, protect, record_of, release, retrieve,
+};
 use differential::records::WRONG_OUTPUT_SIZES;
 use differential::{bases, broken, damages, hand_made, pairs, play, Cut, Next, Random, LAYOUTS};
 use interface::Sides;
-use second::{Answer, Call, Host, NONE_RUNS, OUTPUT_SIZE};
+use second::{Answer, Call, Host, DRAW_LIMIT, NONE_RUNS, OUTPUT_SIZE, ROWS};
 
 use crate::counts::Counts;
 
@@ -12,8 +15,10 @@ use crate::counts::Counts;
 fn records() -> Vec<Vec<u8>> {
     let bytes: [&[u8]; 6] = [&[], &[2], &[1], &[3, 2, 0], &[1, 14], &[7, 1, 0, 1]];
     let chain = chain(2, 77, 1, b"\x01\x00\x01");
+    let release = release(77, 3 * DRAW_LIMIT);
     let calls = [Call::Report, hand_over(NONE_RUNS), Call::Exit, create(9, 1), attest(1, 2), chain];
-    bytes.iter().map(|bytes| bytes.to_vec()).chain(calls.iter().map(record_of)).collect()
+    let calls = calls.iter().chain([&release]);
+    bytes.iter().map(|bytes| bytes.to_vec()).chain(calls.map(record_of)).collect()
 }
 
 /// Code 15 and number 0 to each record.
@@ -68,12 +73,111 @@ pub fn damages_in_pairs(counts: &mut Counts) {
                 done += 1;
                 let mut sides = Sides::new(host, vec![7; OUTPUT_SIZE]);
                 let what = format!("{}, {}", first.name, second.name);
-                let two = [random.pick(&[0, 1, 2, 3, 4, 5]), random.pick(&[6, 7, 8, 9, 10, 11])];
+                let two =
+                    [random.pick(&[0, 1, 2, 3, 4, 5]), random.pick(&[6, 7, 8, 9, 10, 11, 12])];
                 not_sound(counts, &mut sides, &two.map(|n| records[n].clone()), &what);
             }
         }
     }
     counts.holds(done > 4_000, "pairs of damages");
+}
+
+/// Each mark in each row of each base: in a used row with a value only 0 fits, in a spent
+/// one only 1, in one of no bytes either, and in an unused row only 0.
+pub fn marks(counts: &mut Counts) {
+    let report = record_of(&Call::Report);
+    for base in bases() {
+        for n in 0..ROWS {
+            let is = base.escrow[n].mark;
+            let used = n < usize::from(base.record.escrow_rows);
+            for mark in 0..=255 {
+                // All marks in a few rows, some in the others.
+                if ![0, 9, 63].contains(&n) && ![0, 1, 2, 255].contains(&mark) {
+                    continue;
+                }
+                let mut host = base.clone();
+                host.escrow[n].mark = mark;
+                let no_bytes = host.escrow[n].handle.0 < DRAW_LIMIT;
+                let sound = mark == is || used && mark < 2 && no_bytes;
+                let what = format!("row {n} with mark {mark}");
+                answers_15(counts, host, &report, !sound, &what);
+            }
+        }
+    }
+}
+
+/// The call gets 15 exactly where the box is not sound.
+fn answers_15(counts: &mut Counts, host: Host, record: &[u8], unsound: bool, what: &str) {
+    counts.holds(broken(&host).is_empty() != unsound, what);
+    let mut sides = Sides::new(host, vec![7; OUTPUT_SIZE]);
+    let answer = counts.call(&mut sides, record, || what.into());
+    counts.holds(answer.map_or(true, |answer| (answer.code == 15) == unsound), what);
+}
+
+/// Two rows written by hand, the first with every mark near 1 and with lengths and handles
+/// that agree or not: sound where it is unspent and its handle carries its length, or
+/// where it is spent and has none. On the sound ones every kind is called.
+pub fn spent_rows(counts: &mut Counts) {
+    let report = record_of(&Call::Report);
+    for mark in [0, 1, 2, 3, 254, 255] {
+        for length in [0, 1, 2, 255, 256, 257] {
+            for carried in [0, 1, 2, 255, 256, 257, 65_535] {
+                let host = two_rows(mark, length, carried);
+                let fits = match mark {
+                    0 => u64::from(length) == carried && length < 257,
+                    1 => length == 0,
+                    _ => false,
+                };
+                let what = format!("mark {mark}, length {length}, a handle of {carried}");
+                answers_15(counts, host.clone(), &report, !fits, &what);
+                if fits {
+                    every_kind(counts, &host, &what);
+                }
+            }
+        }
+    }
+}
+
+/// Identity 1 in place 0, running. Rows of its own, the first of them with this mark and
+/// length, and a handle that carries the other; the second of two bytes.
+fn two_rows(mark: u8, length: u16, carried: u64) -> Host {
+    let mut host = Host::fresh();
+    host.record.taken = 1;
+    host.record.running = 0;
+    host.record.identities[0] = 1;
+    let handles = [carried * DRAW_LIMIT + 7, 2 * DRAW_LIMIT + 8];
+    let rows = [(mark, 0, length), (0, length, 2)];
+    for (row, (handle, (mark, first, length))) in
+        host.escrow.iter_mut().zip(handles.into_iter().zip(rows))
+    {
+        (row.source, row.recipient, row.handle.0) = (1, 1, handle);
+        (row.first, row.length, row.mark) = (first, length, mark);
+    }
+    host.record.escrow_rows = 2;
+    host.record.escrow_bytes = length + 2;
+    host.escrow_values[..usize::from(length) + 2].fill(9);
+    host
+}
+
+/// The records of the hand-made boxes, and those that name the rows' handles, each on the
+/// box as it was made.
+fn every_kind(counts: &mut Counts, host: &Host, what: &str) {
+    let mut records = hand_made::records();
+    for handle in host.escrow[..2].iter().map(|row| row.handle.0) {
+        let calls = [
+            release(1, handle),
+            release(2, handle),
+            retrieve(1, 0, handle),
+            retrieve(1, 256, handle),
+            chain(3, 1, handle, b""),
+            protect(1, 0, (handle / DRAW_LIMIT) as u16, handle % DRAW_LIMIT),
+        ];
+        records.extend(calls.iter().map(record_of));
+    }
+    let sides = Sides::new(host.clone(), vec![7; OUTPUT_SIZE]);
+    for record in &records {
+        counts.call(&mut sides.clone(), record, || what.into());
+    }
 }
 
 /// Every field of every kind cut at every byte, the empty record too, on each

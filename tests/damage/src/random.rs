@@ -1,8 +1,8 @@
 //! Random boxes, damaged or not, random records and random writings.
 
-use differential::calls::{attest, hand_over, record_of};
+use differential::calls::{attest, create, hand_over, record_of};
 use differential::hand_made::{self, alter, hand_made};
-use differential::records::{any, held_chain, output_size, Known, KINDS};
+use differential::records::{any, held_chain, held_release, output_size, Known, KINDS};
 use differential::{damages, play, play_chains, play_level_one, scramble, Random};
 use interface::{write, Sides};
 use second::{Host, OUTPUT_SIZE};
@@ -11,7 +11,7 @@ use crate::counts::Counts;
 
 /// A script played call by call, a level-one script too, calls on the boxes that
 /// they lead to, calls on damaged and on altered copies of these boxes, chains on a
-/// box with links, and writings.
+/// box with links, releases until most values are gone, and writings.
 pub fn round(counts: &mut Counts, seed: u64) {
     let mut random = Random::new(seed ^ 0x5EED_0000_0000);
     script(counts, seed);
@@ -20,6 +20,7 @@ pub fn round(counts: &mut Counts, seed: u64) {
     damaged(counts, seed, &mut random);
     altered(counts, seed, &mut random);
     chains(counts, seed, &mut random);
+    releases(counts, seed, &mut random);
     for _ in 0..100 {
         writing(counts, seed, &mut random);
     }
@@ -112,11 +113,15 @@ fn altered(counts: &mut Counts, seed: u64, random: &mut Random) {
     }
 }
 
-/// Any record, half of the time one that level one has something to say to.
+/// Any record, most of the time one that level one has something to say to.
 fn record(random: &mut Random, host: &Host) -> Vec<u8> {
-    match random.below(4) {
+    match random.below(5) {
         0 => record_of(&attest(random.between(0, 4), random.pick(&[0, 1, 1, 2, 3, 256]))),
         1 => {
+            let place = random.between(3, 17) as u8;
+            record_of(&random.pick(&[create(place, 4), hand_over(place)]))
+        }
+        2 => {
             let mut records = hand_made::records();
             let n = random.index(records.len());
             records.swap_remove(n)
@@ -148,10 +153,30 @@ fn chains(counts: &mut Counts, seed: u64, random: &mut Random) {
     }
 }
 
+/// Releases of what a sound box holds, for each service in turn, each followed by any
+/// record.
+fn releases(counts: &mut Counts, seed: u64, random: &mut Random) {
+    counts.now("other");
+    let host = if seed % 2 == 0 { play(seed).host } else { one_of_hand_made(seed) };
+    let mut sides = Sides::new(host, vec![7; OUTPUT_SIZE]);
+    for place in 0..16 {
+        let released = || format!("releases for place {place}, seed {seed}");
+        let handed_over = counts.call(&mut sides, &record_of(&hand_over(place)), released);
+        if handed_over.map_or(false, |answer| answer.code == 0) {
+            for _ in 0..6 {
+                let known = Known::of(&sides.second);
+                counts.call(&mut sides, &held_release(random, &known), released);
+                let known = Known::of(&sides.second);
+                counts.call(&mut sides.clone(), &any(random, &known), released);
+            }
+        }
+    }
+}
+
 /// Any kind, the retired ones too, any fields, a buffer about as long as the
 /// record.
 fn writing(counts: &mut Counts, seed: u64, random: &mut Random) {
-    let kind = if random.once_in(8) { random.byte() } else { random.between(0, 16) as u8 };
+    let kind = if random.once_in(8) { random.byte() } else { random.between(0, 17) as u8 };
     let fields = interface::Fields {
         place: random.byte(),
         identity: random.u64(),
@@ -164,7 +189,7 @@ fn writing(counts: &mut Counts, seed: u64, random: &mut Random) {
         _ => random.index(300),
     };
     let bytes = random.bytes(count, 256);
-    let room = [0, 1, 2, 3, 6, 11, 20, 22, 64, count + 6, count + 7, count + 20, count + 21];
+    let room = [0, 1, 2, 3, 6, 11, 18, 20, 22, 64, count + 6, count + 7, count + 20, count + 21];
     let room = random.pick(&room);
     let room = (room + random.index(3)).saturating_sub(1);
     let before = random.bytes(room, 256);

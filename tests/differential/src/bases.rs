@@ -2,12 +2,26 @@
 
 use second::{Call, Host, OUTPUT_SIZE};
 
-use crate::calls::{attest, create, hand_over, heap_write, protect, record_of};
+use crate::calls::{attest, create, hand_over, heap_write, protect, record_of, release};
 
-/// A fresh box, one in use, one with every row used and one with every value
-/// byte used.
-pub fn bases() -> [Host; 4] {
-    [Host::fresh(), base(&[3, 0, 5, 1]), base(&[2, 3, 4, 5].repeat(16)), base(&[256; 16])]
+/// A fresh box, one in use, one with every row used, one with every value byte used
+/// and one with spent rows.
+pub fn bases() -> [Host; 5] {
+    let rows = base(&[2, 3, 4, 5].repeat(16));
+    [Host::fresh(), base(&[3, 0, 5, 1]), rows, base(&[256; 16]), released()]
+}
+
+/// Values that were released between others, the first and the last among them, and
+/// two of no bytes, of which one was.
+fn released() -> Host {
+    let mut host = base(&[4, 2, 0, 256, 1, 3, 0, 5, 7]);
+    accept(&mut host, hand_over(5));
+    for n in [3, 0, 6, 8, 5] {
+        let handle = host.escrow[n].handle.0;
+        accept(&mut host, release(77, handle));
+    }
+    accept(&mut host, hand_over(2));
+    host
 }
 
 /// Identities 77 and 88 in places 2 and 5, 77 running; values of these lengths

@@ -42,6 +42,10 @@ pub fn hand_over(place: u8) -> Call<'static> {
     Call::HandOver { place }
 }
 
+pub fn release(identity: u64, handle: u64) -> Call<'static> {
+    Call::Release { identity, handle: Handle(handle) }
+}
+
 /// `number` is the first link's tag or handle.
 pub fn chain(way: u8, identity: u64, number: u64, bytes: &[u8]) -> Call<'_> {
     Call::Chain { first: Link { way, identity, number }, bytes }

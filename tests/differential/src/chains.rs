@@ -9,7 +9,7 @@ use crate::lines::lines;
 
 /// The sorts, and whether each is counted at the first link and at later ones.
 /// Of accepted chains the first count is those of one link.
-const SORTS: [(Sort, [bool; 2], &str); 13] = [
+const SORTS: [(Sort, [bool; 2], &str); 14] = [
     (Sort::Accepted, [true, true], "accepted"),
     (Sort::NoneRuns, [true, false], "refused 4"),
     (Sort::TooLong, [false, true], "refused 20"),
@@ -20,6 +20,7 @@ const SORTS: [(Sort, [bool; 2], &str); 13] = [
     (Sort::ZeroEscrowed, [true, true], "refused 9 in an escrowed link"),
     (Sort::UnknownLogged, [true, true], "refused 18 by a check"),
     (Sort::UnknownEscrowed, [true, true], "refused 18 by no row"),
+    (Sort::SpentEscrowed, [true, true], "refused 18 by a spent row"),
     (Sort::HeadLogged, [true, true], "refused 19 by the head of a logged link"),
     (Sort::HeadEscrowed, [true, true], "refused 19 by the head of an escrowed link"),
     (Sort::LeftOver, [true, true], "refused 19 by bytes left over"),

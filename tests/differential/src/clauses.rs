@@ -40,8 +40,12 @@ pub enum Clause {
     Tags,
     /// Handles differ from row to row.
     Handles,
-    /// Handles carry the row's length.
+    /// Handles carry the row's length, but in spent rows.
     HandleLengths,
+    /// A mark is 0 or 1.
+    Marks,
+    /// A spent row's length is 0.
+    SpentLengths,
     /// All unused rows and value bytes are zero.
     UnusedLogRows,
     UnusedEscrowRows,
@@ -100,13 +104,15 @@ fn escrow(host: &Host) -> Held {
     let (used, unused) = host.escrow.split_at(escrow_used(host));
     let spans: Vec<_> = used.iter().map(|row| (row.first, row.length)).collect();
     let handles: Vec<_> = used.iter().map(|row| row.handle.0).collect();
-    let carries = |row: &EscrowRow| row.handle.0 >> 48 == u64::from(row.length);
+    let carries = |row: &EscrowRow| row.mark == 1 || row.handle.0 >> 48 == u64::from(row.length);
     vec![
         (Clause::EscrowFollows, follow(&spans, host.record.escrow_bytes)),
         (Clause::EscrowLengths, lengths_hold(&spans)),
         (Clause::EscrowIdentities, used.iter().all(|row| row.source != 0 && row.recipient != 0)),
         (Clause::Handles, all_differ(&handles)),
         (Clause::HandleLengths, used.iter().all(carries)),
+        (Clause::Marks, used.iter().all(|row| row.mark < 2)),
+        (Clause::SpentLengths, used.iter().all(|row| row.mark != 1 || row.length == 0)),
         (Clause::UnusedEscrowRows, unused.iter().all(|row| *row == EscrowRow::default())),
         (Clause::UnusedEscrowBytes, zero_from(&host.escrow_values, host.record.escrow_bytes)),
     ]

@@ -22,7 +22,7 @@ const COUNT: usize = 2;
 
 /// The kinds. 2 and 3 are retired.
 #[rustfmt::skip]
-pub const LAYOUTS: [Layout; 13] = [
+pub const LAYOUTS: [Layout; 14] = [
     Layout { kind: 1, map: 0x07, widths: &[PLACE, IDENTITY], bytes: false },
     Layout { kind: 4, map: 0x01, widths: &[], bytes: false },
     Layout { kind: 5, map: 0x4B, widths: &[PLACE, OFFSET], bytes: true },
@@ -36,6 +36,7 @@ pub const LAYOUTS: [Layout; 13] = [
     Layout { kind: 13, map: 0x01, widths: &[], bytes: false },
     Layout { kind: 14, map: 0x03, widths: &[PLACE], bytes: false },
     Layout { kind: 15, map: 0x67, widths: &[PLACE, IDENTITY, NUMBER], bytes: true },
+    Layout { kind: 16, map: 0x25, widths: &[IDENTITY, NUMBER], bytes: false },
 ];
 
 impl Layout {
@@ -179,7 +180,7 @@ mod tests {
             assert_eq!(layout.map >> 6 == 1, layout.bytes, "kind {}", layout.kind);
         }
         let lengths = LAYOUTS.map(|layout| layout.record(0, 3).len());
-        assert_eq!(lengths, [11, 2, 10, 7, 9, 6, 6, 23, 22, 20, 2, 3, 24]);
+        assert_eq!(lengths, [11, 2, 10, 7, 9, 6, 6, 23, 22, 20, 2, 3, 24, 18]);
     }
 
     /// What each kind misses, cut at each of its bytes, written out.
@@ -199,6 +200,7 @@ mod tests {
             "11",
             "111",
             "111876543218765432121321",
+            "118765432187654321",
         ];
         for (layout, digits) in LAYOUTS.iter().zip(written) {
             for fill in [0x00, 0xFF] {

@@ -230,7 +230,7 @@ fn add_escrow_row(host: &mut Host, draw: u64, length: u16) -> bool {
     let (rows, first) = (escrow_used(host), host.record.escrow_bytes);
     let handle = Handle((u64::from(length) << 48) + draw);
     match host.escrow.get_mut(rows) {
-        Some(row) => *row = EscrowRow { source: 3, recipient: 4, handle, first, length },
+        Some(row) => *row = EscrowRow { source: 3, recipient: 4, handle, first, length, mark: 0 },
         None => return false,
     }
     host.record.escrow_rows = rows as u16 + 1;
@@ -415,24 +415,80 @@ fn add_escrow_rows(add: &mut Add) {
     });
     add("a handle given twice", Handles, handle_again);
     add("a bit of a handle's length", HandleLengths, |host, random| {
-        at(used_escrow_row(host, random), |n| {
+        at(unspent_row(host, random), |n| {
             host.escrow[n].handle.0 ^= 1 << random.between(48, 63);
         })
     });
     add("a handle of one byte more", HandleLengths, |host, random| {
-        at(used_escrow_row(host, random), |n| {
+        at(unspent_row(host, random), |n| {
             host.escrow[n].handle.0 = host.escrow[n].handle.0.wrapping_add(1 << 48);
         })
     });
+    add_marks(add);
+}
+
+fn add_marks(add: &mut Add) {
+    use Clause::*;
+    add("a mark of 2", Marks, |host, random| {
+        at(used_escrow_row(host, random), |n| host.escrow[n].mark = 2)
+    });
+    add("a mark above 1", Marks, |host, random| {
+        at(used_escrow_row(host, random), |n| {
+            host.escrow[n].mark = random.between(2, 255) as u8;
+        })
+    });
+    add("a value's row is marked spent", SpentLengths, |host, random| {
+        at(unspent_row(host, random).filter(|&n| host.escrow[n].length > 0), |n| {
+            host.escrow[n].mark = 1;
+        })
+    });
+    add("a spent row of one byte", SpentLengths, spent_with_a_byte);
+    add("a spent row's mark is down", HandleLengths, |host, random| {
+        let long = |&n: &usize| host.escrow[n].handle.0 >> 48 != 0;
+        at(spent_row(host, random).filter(long), |n| host.escrow[n].mark = 0)
+    });
+    add("a spent row's handle given again", Handles, |host, random| {
+        let row = spent_row(host, random).map(|n| host.escrow[n]);
+        row.map_or(false, |row| again(host, row.handle))
+    });
+}
+
+/// A used row with a value.
+fn unspent_row(host: &Host, random: &mut Random) -> Option<usize> {
+    used_escrow_row(host, random).filter(|&n| host.escrow[n].mark != 1)
+}
+
+/// A spent row as it should be.
+fn spent_row(host: &Host, random: &mut Random) -> Option<usize> {
+    let used = &host.escrow[..escrow_used(host)];
+    let is_spent = |&n: &usize| used[n].mark == 1 && used[n].length == 0;
+    let spent: Vec<usize> = (0..used.len()).filter(is_spent).collect();
+    (!spent.is_empty()).then(|| random.pick(&spent))
+}
+
+/// A spent row has the byte at its place, and later values make room for it.
+fn spent_with_a_byte(host: &mut Host, random: &mut Random) -> bool {
+    let (used, bytes) = (escrow_used(host), usize::from(host.record.escrow_bytes));
+    let room = bytes < VALUES_SIZE.min(host.escrow_values.len());
+    at(spent_row(host, random).filter(|_| room), |n| {
+        let first = usize::from(host.escrow[n].first).min(bytes);
+        host.escrow_values.copy_within(first..bytes, first + 1);
+        host.escrow[n].length = 1;
+        host.escrow[n + 1..used].iter_mut().for_each(|row| row.first = row.first.wrapping_add(1));
+        host.record.escrow_bytes += 1;
+    })
 }
 
 /// Adds a row with the handle of another.
 fn handle_again(host: &mut Host, random: &mut Random) -> bool {
     let row = used_escrow_row(host, random).map(|n| host.escrow[n]);
-    row.map_or(false, |EscrowRow { handle, length, .. }| {
-        let draw = handle.0 & ((1 << 48) - 1);
-        fits(host.record.escrow_bytes, length) && add_escrow_row(host, draw, length)
-    })
+    row.map_or(false, |row| again(host, row.handle))
+}
+
+/// Adds a row with this handle, where there is room for as many bytes as it carries.
+fn again(host: &mut Host, handle: Handle) -> bool {
+    let (length, draw) = ((handle.0 >> 48) as u16, handle.0 & ((1 << 48) - 1));
+    fits(host.record.escrow_bytes, length) && add_escrow_row(host, draw, length)
 }
 
 fn add_unused_rows(add: &mut Add) {
@@ -465,6 +521,14 @@ fn add_unused_rows(add: &mut Add) {
     });
     add("an unused escrow row's length", UnusedEscrowRows, |host, random| {
         at(unused_escrow_row(host, random), |n| host.escrow[n].length = random.between(1, u16::MAX))
+    });
+    add("an unused escrow row's mark", UnusedEscrowRows, |host, random| {
+        at(unused_escrow_row(host, random), |n| host.escrow[n].mark = 1)
+    });
+    add("an unused escrow row's other mark", UnusedEscrowRows, |host, random| {
+        at(unused_escrow_row(host, random), |n| {
+            host.escrow[n].mark = random.between(2, 255) as u8;
+        })
     });
 }
 
@@ -551,11 +615,13 @@ fn scramble_log_row(row: &mut LogRow, random: &mut Random) {
 }
 
 fn scramble_escrow_row(row: &mut EscrowRow, random: &mut Random) {
-    match random.below(5) {
+    match random.below(7) {
         0 => row.source = random.below(3),
         1 => row.recipient = random.below(3),
         2 => row.handle.0 ^= 1 << random.below(64),
         3 => nudge(&mut row.first, random),
+        4 => row.mark = random.pick(&[0, 1, 2, 3, 128, 255]),
+        5 => row.mark ^= 1,
         _ => nudge(&mut row.length, random),
     }
 }

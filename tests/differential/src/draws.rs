@@ -43,7 +43,7 @@ pub(crate) fn near(random: &mut Random, draw: u64) -> u64 {
 
 /// A draw near that of a row, most often of one of this length where there is one.
 pub(crate) fn near_a_row(random: &mut Random, rows: &[Escrowed], length: u16) -> Option<u64> {
-    let of_length = |row: &&Escrowed| row.handle >> 48 == u64::from(length);
+    let of_length = |row: &&Escrowed| row.length() == length;
     let mut near_to: Vec<&Escrowed> = rows.iter().filter(of_length).collect();
     if near_to.is_empty() || random.once_in(8) {
         near_to = rows.iter().collect();
@@ -56,7 +56,7 @@ pub(crate) fn near_a_row(random: &mut Random, rows: &[Escrowed], length: u16) ->
 }
 
 /// How a handle was found. One may be of several sorts.
-const SORTS: [&str; 8] = [
+const SORTS: [&str; 9] = [
     "given their draw",
     "given their draw, in use under another length",
     "given their draw, which comes after one in use",
@@ -65,6 +65,7 @@ const SORTS: [&str; 8] = [
     "more draws passed over",
     "passed over from a draw that comes after one in use",
     "passed over, draw + 1 in use too",
+    "passed over a draw of a spent row",
 ];
 
 /// How many accepted protects there were of each sort.
@@ -85,6 +86,7 @@ impl Draws {
         };
         let handle = |draw| (u64::from(length) << 48) + draw;
         let in_use = |draw| held.escrowed.iter().any(|row| row.handle == handle(draw));
+        let spent = |draw| held.escrowed.iter().any(|row| row.spent && row.handle == handle(draw));
         let other_length = held.escrowed.iter().any(|row| row.handle % LIMIT == draw);
         let entered = in_use(before(draw));
         let passed = (0..=64).find(|&many| !in_use(after(draw, many)));
@@ -98,6 +100,7 @@ impl Draws {
             passed > 8,
             passed > 0 && entered,
             passed > 0 && in_use((draw + 1) % LIMIT),
+            (0..passed).any(|many| spent(after(draw, many))),
         ];
         for (count, of_sort) in self.sorts.iter_mut().zip(sorts) {
             *count += u64::from(of_sort);
@@ -186,7 +189,7 @@ mod tests {
         for (many, right) in [(0, false), (1, false), (2, false), (3, true), (4, false)] {
             let (draws, follows) = last_is((1 << 48) + after(7, many));
             assert_eq!(follows, right, "{many}");
-            assert_eq!(draws.sorts, [3, 1, 1, 1, 1, 0, 1, 0]);
+            assert_eq!(draws.sorts, [3, 1, 1, 1, 1, 0, 1, 0, 0]);
             assert_eq!(draws.most(), 2);
         }
         assert!(!last_is(after(7, 3)).1 && !last_is((2 << 48) + after(7, 3)).1);

@@ -1,8 +1,8 @@
 //! Sound boxes that no level-one paper leads to, written row by row: taken places
 //! above 3, of which one may run, several values of one identity, full logs with
-//! and without a row of who runs, escrowed values whose draws follow one another. And
-//! records on which 21, 22 and 23 and their neighbours hang, and protects that pass
-//! over draws.
+//! and without a row of who runs, escrowed values whose draws follow one another, spent
+//! rows. And records on which 21, 22 and 23 and their neighbours hang, protects that
+//! pass over draws, and releases.
 
 use second::{
     tag_of, Call, EscrowRow, Handle, Host, LogRow, DRAW_LIMIT, HEAP_SIZE, NONE_RUNS, PLACES, ROWS,
@@ -10,8 +10,8 @@ use second::{
 };
 
 use crate::calls::{
-    attest, chain, check, create, hand_over, heap_read, heap_write, protect, record_of, retrieve,
-    shared_read, shared_write,
+    attest, chain, check, create, hand_over, heap_read, heap_write, protect, record_of, release,
+    retrieve, shared_read, shared_write,
 };
 use crate::clauses::taken;
 use crate::draws::{after, next};
@@ -30,7 +30,8 @@ const FIRST: u64 = 500;
 const FREE: usize = 40;
 
 /// Each log beside each running place, none included, with no escrowed values,
-/// some, as many as there are rows, or all but two.
+/// some, as many as there are rows, or all but two; or some of them spent, first and
+/// last ones too, or all but two of 64, or each of 6.
 pub fn hand_made() -> Vec<Host> {
     let running = SERVICES.iter().map(|&(place, _)| place as u8).chain([NONE_RUNS]);
     let running: Vec<u8> = running.collect();
@@ -39,12 +40,15 @@ pub fn hand_made() -> Vec<Host> {
         for &place in &running {
             let mut host = services(place);
             log.iter().for_each(|(identity, value)| put_logged(&mut host, *identity, value));
-            put_escrows(&mut host, boxes.len() % 4);
+            put_escrows(&mut host, boxes.len() % ESCROWS);
             boxes.push(host);
         }
     }
     boxes
 }
+
+/// The sorts of escrows.
+const ESCROWS: usize = 8;
 
 type Log = Vec<(u64, Vec<u8>)>;
 
@@ -117,7 +121,8 @@ fn put_escrowed(host: &mut Host, recipient: u64, draw: u64, value: &[u8]) {
     let (rows, first, length) =
         (host.record.escrow_rows, host.record.escrow_bytes, value.len() as u16);
     let handle = Handle(u64::from(length) * DRAW_LIMIT + draw);
-    host.escrow[usize::from(rows)] = EscrowRow { source: 3, recipient, handle, first, length };
+    let row = EscrowRow { source: 3, recipient, handle, first, length, mark: 0 };
+    host.escrow[usize::from(rows)] = row;
     host.escrow_values[usize::from(first)..][..value.len()].copy_from_slice(value);
     host.record.escrow_rows += 1;
     host.record.escrow_bytes += length;
@@ -142,23 +147,47 @@ fn put_escrows(host: &mut Host, many: usize) {
         3 => (0..57).rev().filter(|&n| n != FREE).for_each(|n| {
             put_escrowed(host, 1, after(FIRST, n), &[]);
         }),
+        4 => [0, 3, 5].into_iter().for_each(|n| spend(host, n)),
+        5 => [1, 2].into_iter().for_each(|n| spend(host, n)),
+        6 => (0..6).for_each(|n| spend(host, n)),
+        7 => {
+            (6..ROWS as u64).for_each(|draw| put_escrowed(host, 1, draw, b"AB"));
+            (0..ROWS).filter(|n| ![2, 40].contains(n)).for_each(|n| spend(host, n));
+            // Lengths that no value has: a spent row's handle need not carry its own.
+            host.escrow[0].handle.0 |= 300 << 48;
+            host.escrow[63].handle.0 |= 65_535 << 48;
+        }
         _ => {}
     }
 }
 
+/// Marks a used row spent by hand: its length becomes 0, and later values close up.
+fn spend(host: &mut Host, n: usize) {
+    let row = &mut host.escrow[n];
+    let (first, length) = (usize::from(row.first), row.length);
+    (row.mark, row.length) = (1, 0);
+    host.escrow_values.drain(first..first + usize::from(length));
+    host.escrow_values.resize(VALUES_SIZE, 0);
+    let used = usize::from(host.record.escrow_rows);
+    host.escrow[n + 1..used].iter_mut().for_each(|row| row.first -= length);
+    host.record.escrow_bytes -= length;
+}
+
 /// One alteration that leaves a sound box sound: another service runs or none, a
 /// byte of a heap, another identity in a taken place, a row more in the log, another
-/// draw in a handle.
+/// draw in a handle, a row spent, another length in a spent row's handle.
 pub fn alter(host: &mut Host, random: &mut Random) {
     let taken: Vec<u8> = (0..PLACES as u8).filter(|&n| taken(host, n.into())).collect();
     let place = if taken.is_empty() { NONE_RUNS } else { random.pick(&taken) };
     let index = usize::from(place);
-    match random.below(5) {
+    match random.below(7) {
         _ if place == NONE_RUNS => flip_shared(host, random),
         0 => host.record.running = if random.once_in(8) { NONE_RUNS } else { place },
         1 => host.heaps[HEAP_SIZE * index + random.index(6)] = random.pick(b"ABC"),
         2 => host.record.identities[index] = random.between(1, 4).into(),
         3 => redraw(host, random),
+        4 => spend_any(host, random),
+        5 => relength(host, random),
         _ => {
             let count = random.index(4);
             let value: Vec<u8> = (0..count).map(|_| random.pick(b"ABC")).collect();
@@ -175,9 +204,32 @@ fn redraw(host: &mut Host, random: &mut Random) {
     }
     let (n, other) = (random.index(rows.len()), random.index(rows.len()));
     let draw = next(rows[other].handle.0 % DRAW_LIMIT);
-    let handle = Handle(u64::from(rows[n].length) * DRAW_LIMIT + draw);
-    if rows.iter().all(|row| row.handle != handle) {
-        rows[n].handle = handle;
+    rehandle(rows, n, rows[n].handle.0 / DRAW_LIMIT * DRAW_LIMIT + draw);
+}
+
+/// The row gets this handle, where it is free.
+fn rehandle(rows: &mut [EscrowRow], n: usize, handle: u64) {
+    if rows.iter().all(|row| row.handle.0 != handle) {
+        rows[n].handle = Handle(handle);
+    }
+}
+
+/// A used row that isn't yet becomes spent.
+fn spend_any(host: &mut Host, random: &mut Random) {
+    let used = &host.escrow[..usize::from(host.record.escrow_rows)];
+    let unspent: Vec<usize> = (0..used.len()).filter(|&n| used[n].mark == 0).collect();
+    if !unspent.is_empty() {
+        spend(host, random.pick(&unspent));
+    }
+}
+
+/// A spent row's handle carries any length.
+fn relength(host: &mut Host, random: &mut Random) {
+    let rows = &mut host.escrow[..usize::from(host.record.escrow_rows)];
+    let spent: Vec<usize> = (0..rows.len()).filter(|&n| rows[n].mark == 1).collect();
+    if !spent.is_empty() {
+        let (n, length) = (random.pick(&spent), random.pick(&[0, 1, 2, 17, 256, 257, 65_535]));
+        rehandle(rows, n, length * DRAW_LIMIT + rows[n].handle.0 % DRAW_LIMIT);
     }
 }
 
@@ -206,6 +258,7 @@ fn drawn() -> Vec<Call<'static>> {
     for draw in [0, 1, 2, 3, 4, 6, 63, 64, next(1), next(6), FIRST + 1] {
         calls.extend([protect(2, 0, 0, draw), protect(2, 0, 1, draw), protect(2, 0, 17, draw)]);
     }
+    calls.extend([11, 12, 40].map(|draw| protect(1, 0, 17, draw)));
     calls
 }
 
@@ -231,6 +284,13 @@ pub fn records() -> Vec<Vec<u8>> {
             calls.push(chain(3, identity, DRAW_LIMIT + draw, b""));
             calls.push(chain(3, identity, 17 * DRAW_LIMIT + 10 + draw, b"\0"));
         }
+        calls.extend([0, 1, 2, 3, 9].map(|draw| release(identity, DRAW_LIMIT + draw)));
+        calls.extend([11, 12, 13].map(|draw| release(identity, 17 * DRAW_LIMIT + draw)));
+        calls.extend([6, 40, 63].map(|draw| release(identity, draw)));
+        calls.extend([6, 40, 63].map(|draw| release(identity, 2 * DRAW_LIMIT + draw)));
+        calls.push(release(identity, 65_535 * DRAW_LIMIT + 63));
+        calls.push(retrieve(identity, 0, 65_535 * DRAW_LIMIT + 63));
+        calls.push(retrieve(identity, 255, 2 * DRAW_LIMIT + 40));
         calls.push(chain(2, identity, tag_of(identity, b"A").0, b"\x01\0A"));
         calls.push(chain(1, identity, 7, b""));
         calls.push(check(identity, tag_of(identity, b"A").0, b"A"));
@@ -250,6 +310,7 @@ mod tests {
     use crate::held::Traced;
     use crate::level_one::LevelOne;
     use crate::play::play;
+    use crate::releases::Releases;
     use second::OUTPUT_SIZE;
 
     #[test]
@@ -280,6 +341,7 @@ mod tests {
     #[test]
     fn second_answers_each_sort() {
         let (mut counted, mut draws) = (LevelOne::default(), Draws::default());
+        let mut releases = Releases::default();
         let records = records();
         for (n, host) in hand_made().iter().enumerate() {
             for record in &records {
@@ -291,9 +353,11 @@ mod tests {
                 assert!(follows, "box {n}, {record:02x?}: {full:?}, {answer:?}");
                 let follows = draws.add(&traced.held, record, full.code, full.number);
                 assert!(follows, "box {n}, {record:02x?}: {full:?}");
+                let follows = releases.add(&traced, record, full.code, full.number);
+                assert!(follows, "box {n}, {record:02x?}: {full:?}");
             }
         }
-        println!("{counted}\n{draws}");
+        println!("{counted}\n{draws}\n{releases}");
         assert!(counted.each_above(20), "{counted}");
         assert!(draws.each_above(20) && draws.most() == FREE, "{draws}");
     }

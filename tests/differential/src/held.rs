@@ -18,7 +18,17 @@ pub struct Escrowed {
     pub source: u64,
     pub recipient: u64,
     pub handle: u64,
+    /// None where the row is spent.
     pub value: Vec<u8>,
+    /// The value was released.
+    pub spent: bool,
+}
+
+impl Escrowed {
+    /// The length that the handle carries, a spent row's too.
+    pub fn length(&self) -> u16 {
+        (self.handle >> 48) as u16
+    }
 }
 
 /// The rows, each with its value.
@@ -50,18 +60,34 @@ impl Held {
                     recipient: row.recipient,
                     handle: row.handle.0,
                     value: part(&host.escrow_values, row.first, row.length),
+                    spent: row.mark == 1,
                 })
                 .collect(),
         }
     }
 
-    /// Every row as a first link, of the escrow only those for `recipient`; whether
-    /// its head is good or not.
+    /// The unspent row with all three.
+    pub fn unspent(&self, handle: u64, source: u64, recipient: u64) -> Option<&Escrowed> {
+        let wanted = (handle, source, recipient, false);
+        let fits = |row: &&Escrowed| (row.handle, row.source, row.recipient, row.spent) == wanted;
+        self.escrowed.iter().find(fits)
+    }
+
+    /// The row with this handle is spent. It stays, and its value is gone.
+    pub fn release(&mut self, handle: u64) {
+        let mut rows = self.escrowed.iter_mut();
+        let row = rows.find(|row| row.handle == handle).expect("it was found");
+        row.spent = true;
+        row.value.clear();
+    }
+
+    /// Every row as a first link, of the escrow only those for `recipient`, spent ones
+    /// too; whether its head is good or not.
     pub fn rows(&self, recipient: u64) -> Vec<Link> {
         self.first_links(recipient, |_| true)
     }
 
-    /// Those with a good head.
+    /// Those with a good head. A spent row has none.
     pub fn links(&self, recipient: u64) -> Vec<Link> {
         self.first_links(recipient, |value| head(value).is_some())
     }
@@ -153,6 +179,7 @@ impl Held {
         match row {
             _ if link.identity == 0 => walk.ends(Sort::ZeroEscrowed),
             None => walk.ends(Sort::UnknownEscrowed),
+            Some(row) if row.spent => walk.ends(Sort::SpentEscrowed),
             Some(row) => self.value(walk, &row.value, rest, Sort::HeadEscrowed),
         }
     }
@@ -242,6 +269,7 @@ pub enum Sort {
     ZeroEscrowed,
     UnknownLogged,
     UnknownEscrowed,
+    SpentEscrowed,
     HeadLogged,
     HeadEscrowed,
     LeftOver,
@@ -263,7 +291,7 @@ impl Led {
             Sort::Accepted => 0,
             Sort::NoneRuns => 4,
             Sort::ZeroLogged | Sort::ZeroEscrowed => 9,
-            Sort::UnknownLogged | Sort::UnknownEscrowed => 18,
+            Sort::UnknownLogged | Sort::UnknownEscrowed | Sort::SpentEscrowed => 18,
             Sort::Way | Sort::CutCount | Sort::CutContents => 19,
             Sort::HeadLogged | Sort::HeadEscrowed | Sort::LeftOver => 19,
             Sort::TooLong => 20,
@@ -340,8 +368,14 @@ impl Traced {
             }
             Call::Protect { identity, offset, length, .. } => {
                 let value = self.part(offset, length.into()).to_vec();
-                let (source, recipient) = (self.runner(), identity);
-                self.held.escrowed.push(Escrowed { source, recipient, handle: number, value });
+                let row = Escrowed {
+                    source: self.runner(),
+                    recipient: identity,
+                    handle: number,
+                    value,
+                    spent: false,
+                };
+                self.held.escrowed.push(row);
             }
             Call::Retrieve { offset, handle, .. } => {
                 let mut rows = self.held.escrowed.iter();
@@ -349,6 +383,7 @@ impl Traced {
                 let value = row.value.clone();
                 self.part(offset, value.len()).copy_from_slice(&value);
             }
+            Call::Release { handle, .. } => self.held.release(handle.0),
             _ => {}
         }
     }

@@ -32,10 +32,11 @@ const fn again(kind: u8, full: u8, code: u8) -> Sort {
 
 /// The sorts that every paper can reach, one that begins with a fresh box too.
 #[rustfmt::skip]
-const OF_PAPERS: [Sort; 31] = [
+const OF_PAPERS: [Sort; 34] = [
     sort(11, 0, 21), sort(11, 4, 21), sort(11, 9, 21), sort(11, 11, 21), sort(11, 12, 21),
     sort(12, 4, 21), sort(12, 9, 21), sort(12, 10, 21),
     sort(15, 0, 21), sort(15, 4, 21), sort(15, 9, 21), sort(15, 18, 21), sort(15, 19, 21),
+    sort(16, 4, 21), sort(16, 9, 21), sort(16, 10, 21),
     sort(1, 0, 22), sort(1, 9, 22), sort(14, 7, 22), sort(9, 0, 23), sort(9, 13, 23),
     // Their neighbours.
     sort(1, 0, 0), sort(1, 6, 6), sort(1, 7, 7), sort(1, 9, 9),
@@ -46,8 +47,9 @@ const OF_PAPERS: [Sort; 31] = [
 /// Those of hand-made boxes: escrowed values, taken places above 3, of which one
 /// runs, and two values of one identity.
 #[rustfmt::skip]
-const OF_HAND_MADE: [Sort; 8] = [
+const OF_HAND_MADE: [Sort; 9] = [
     sort(11, 14, 21), sort(12, 0, 21), sort(12, 11, 21), sort(15, 20, 21),
+    sort(16, 0, 21),
     sort(1, 7, 22), sort(14, 0, 22), again(14, 0, 22), again(9, 0, 23),
 ];
 
@@ -133,7 +135,10 @@ fn sort_of(traced: &Traced, call: &Call) -> Option<Sort> {
     let full = full_code(traced, call)?;
     let (mut other, mut again) = (false, false);
     let code = match *call {
-        Call::Protect { .. } | Call::Retrieve { .. } | Call::Chain { .. } => 21,
+        Call::Protect { .. }
+        | Call::Retrieve { .. }
+        | Call::Chain { .. }
+        | Call::Release { .. } => 21,
         Call::Create { place, .. } if full != 6 && place > 3 => 22,
         Call::HandOver { place } => {
             again = full == 0 && place != NONE_RUNS && place == traced.running;
@@ -163,7 +168,7 @@ fn sort_of(traced: &Traced, call: &Call) -> Option<Sort> {
 
 /// The full box's code to a call of the kinds that level one has something to say
 /// to.
-fn full_code(traced: &Traced, call: &Call) -> Option<u8> {
+pub(crate) fn full_code(traced: &Traced, call: &Call) -> Option<u8> {
     let (runner, held) = (traced.runner(), &traced.held);
     let beyond = |offset, length| usize::from(offset) + length > HEAP_SIZE;
     let taken = |place| traced.places.get(usize::from(place)).map_or(false, |&holder| holder != 0);
@@ -190,19 +195,21 @@ fn full_code(traced: &Traced, call: &Call) -> Option<u8> {
             (14, escrow_full(traced, length.into())),
         ]),
         Call::Retrieve { identity, offset, handle } => {
-            let wanted = (identity, runner, handle.0);
-            let mut rows = held.escrowed.iter();
-            let row = rows.find(|row| (row.source, row.recipient, row.handle) == wanted);
+            let row = held.unspent(handle.0, identity, runner);
             let beyond = row.map_or(false, |row| beyond(offset, row.value.len()));
             first_fault(&[(4, runner == 0), (9, identity == 0), (10, row.is_none()), (11, beyond)])
         }
         Call::Chain { first, bytes } => held.follow(runner, first, bytes).code(),
+        Call::Release { identity, handle } => {
+            let no_row = held.unspent(handle.0, identity, runner).is_none();
+            first_fault(&[(4, runner == 0), (9, identity == 0), (10, no_row)])
+        }
         _ => return None,
     };
     Some(code)
 }
 
-/// Whether there is no row, or no room for so many bytes.
+/// Whether there is no row, spent ones counted as used, or no room for so many bytes.
 fn escrow_full(traced: &Traced, length: usize) -> bool {
     let rows = &traced.held.escrowed;
     let bytes: usize = rows.iter().map(|row| row.value.len()).sum();

@@ -24,6 +24,7 @@ pub mod missing;
 pub mod play;
 pub mod random;
 pub mod records;
+pub mod releases;
 mod style;
 
 pub use bases::bases;
@@ -42,3 +43,4 @@ pub use lines::lines;
 pub use missing::Missing;
 pub use play::{play, play_chains, play_level_one, Played};
 pub use random::Random;
+pub use releases::Releases;

@@ -8,6 +8,8 @@ pub struct Line<'a> {
     pub number: u64,
     /// Record bytes used.
     pub used: usize,
+    /// Bytes shown, in hexadecimal, or "-".
+    pub shown: &'a [u8],
     /// The script from the line's record on.
     pub script: &'a [u8],
 }
@@ -27,7 +29,8 @@ pub fn lines<'a>(script: &'a [u8], sheet: &'a [u8]) -> impl Iterator<Item = Line
         let mut fields = text.split(|&byte| byte == b' ');
         let (code, number) = (field(fields.next()), field(fields.next()));
         let used = field(fields.next());
-        let line = Line { code, number, used, script: rest };
+        let shown = fields.next().unwrap_or_default();
+        let line = Line { code, number, used, shown, script: rest };
         rest = &rest[used..];
         line
     })

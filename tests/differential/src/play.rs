@@ -9,7 +9,7 @@ use second::{
 };
 
 use crate::calls::{
-    attest, check, create, hand_over, heap_read, heap_write, protect, record_of, retrieve,
+    attest, check, create, hand_over, heap_read, heap_write, protect, record_of, release, retrieve,
     shared_read, shared_write,
 };
 use crate::draws::{near, near_a_row};
@@ -174,9 +174,10 @@ impl<'a> Player<'a> {
                 let (source, handle) = (self.runner(), answer.number);
                 self.known.numbers.push(handle);
                 let value = self.heap_part(offset, length);
-                let row = Escrowed { source, recipient: identity, handle, value };
+                let row = Escrowed { source, recipient: identity, handle, value, spent: false };
                 self.known.held.escrowed.push(row);
             }
+            Call::Release { handle, .. } => self.known.held.release(handle.0),
             _ => {}
         }
     }
@@ -233,6 +234,7 @@ impl<'a> Player<'a> {
             12 => self.retrieve(),
             14 => self.hand_over(),
             15 => records::held_chain(self.random, &self.known),
+            16 => self.release(),
             LINK => self.link(place),
             TENANT => self.tenant(place),
             _ => record_of(&Call::Report),
@@ -415,6 +417,34 @@ impl<'a> Player<'a> {
         }
     }
 
+    /// Mostly an unspent value for the running identity, if there is one: the first,
+    /// the last or any. Else any row, spent ones too, perhaps with one thing wrong. A
+    /// protect may follow at once, which uses the bytes that were freed.
+    fn release(&mut self) -> Vec<u8> {
+        if self.random.once_in(4) {
+            return records::held_release(self.random, &self.known);
+        }
+        let runner = self.runner();
+        let rows = self.known.held.escrowed.iter();
+        let mine: Vec<(u64, u64)> = rows
+            .filter(|row| row.recipient == runner && !row.spent)
+            .map(|row| (row.source, row.handle))
+            .collect();
+        if mine.is_empty() {
+            return records::held_release(self.random, &self.known);
+        }
+        let any = self.random.index(mine.len());
+        let (source, handle) = mine[self.random.pick(&[0, mine.len() - 1, any, any])];
+        if self.random.once_in(4) {
+            let length = (handle >> 48) as u16;
+            let other = self.draw(length);
+            let draw = self.random.pick(&[handle % DRAW_LIMIT, other]);
+            let offset = self.offset(HEAP_SIZE, length);
+            self.planned.push_back(record_of(&protect(runner, offset, length, draw)));
+        }
+        record_of(&release(source, handle))
+    }
+
     /// Mostly a value escrowed for the running identity, if there is one.
     fn retrieve(&mut self) -> Vec<u8> {
         let runner = self.runner();
@@ -428,7 +458,7 @@ impl<'a> Player<'a> {
             return record_of(&Call::Report);
         }
         let row = self.random.pick(&rows);
-        let (mut source, handle, length) = (row.source, row.handle, row.value.len() as u16);
+        let (mut source, handle, length) = (row.source, row.handle, row.length());
         if self.random.once_in(8) {
             source = self.random.pick(&self.known.identities);
         }

@@ -3,7 +3,7 @@
 
 use second::{tag_of, write, Fields, Host, Link, DRAW_LIMIT, HEAP_SIZE, OUTPUT_SIZE, SHARED_SIZE};
 
-use crate::calls::{chain, record_of};
+use crate::calls::{chain, record_of, release};
 use crate::draws::near_a_row;
 use crate::held::{counted, Held};
 use crate::random::Random;
@@ -17,7 +17,7 @@ const NUMBERS: [u64; 8] =
     [0, 1, 2, DRAW_LIMIT - 1, DRAW_LIMIT, DRAW_LIMIT + 1, 256 * DRAW_LIMIT, u64::MAX];
 
 /// The numbers of the kinds. 2 and 3 are retired.
-pub const KINDS: [u8; 13] = [1, 4, 5, 6, 7, 8, 9, 10, 11, 12, 13, 14, 15];
+pub const KINDS: [u8; 14] = [1, 4, 5, 6, 7, 8, 9, 10, 11, 12, 13, 14, 15, 16];
 
 /// What a record may name so that it fits a box.
 #[derive(Default)]
@@ -55,6 +55,9 @@ pub fn whole(random: &mut Random, known: &Known) -> Vec<u8> {
     if kind == 15 && !random.once_in(3) {
         return held_chain(random, known);
     }
+    if kind == 16 && !random.once_in(3) {
+        return held_release(random, known);
+    }
     let mut fields = Fields {
         place: match kind {
             14 => handed_over_to(random),
@@ -81,7 +84,7 @@ pub fn whole(random: &mut Random, known: &Known) -> Vec<u8> {
 fn used_draw(random: &mut Random, known: &Known, fields: &mut Fields) {
     let rows = &known.held.escrowed;
     if !rows.is_empty() {
-        fields.length = rows[random.index(rows.len())].value.len() as u16;
+        fields.length = rows[random.index(rows.len())].length();
         fields.number = near_a_row(random, rows, fields.length).unwrap_or(fields.number);
     }
 }
@@ -129,6 +132,31 @@ pub fn held_chain(random: &mut Random, known: &Known) -> Vec<u8> {
     let (first, bytes) =
         if random.once_in(2) { spoilt(random, known, first, bytes) } else { (first, bytes) };
     record_of(&chain(first.way, first.identity, first.number, &bytes))
+}
+
+/// The release of a row that is held, spent or not: half of the time of one for who
+/// runs, and now and then with one thing wrong. One of no plan where no row is held.
+pub fn held_release(random: &mut Random, known: &Known) -> Vec<u8> {
+    let rows = &known.held.escrowed;
+    let mine: Vec<_> = rows.iter().filter(|row| row.recipient == known.recipient).collect();
+    let (mut source, mut named) = match random.below(2) {
+        0 if !mine.is_empty() => {
+            let row = random.pick(&mine);
+            (row.source, row.handle)
+        }
+        _ if !rows.is_empty() => {
+            let row = &rows[random.index(rows.len())];
+            (row.source, row.handle)
+        }
+        _ => (identity(random, known), number(random, known)),
+    };
+    match random.below(12) {
+        0 => source = identity(random, known),
+        1 => named ^= 1 << random.below(64),
+        2 => named = number(random, known),
+        _ => {}
+    }
+    record_of(&release(source, named))
 }
 
 /// A logged link that most often was never logged, with the tag that it would
@@ -269,8 +297,9 @@ pub fn noise(random: &mut Random) -> Vec<u8> {
     let count = random.index(41);
     let mut noise = random.bytes(count, 256);
     if random.once_in(2) && count >= 2 {
-        noise[0] = random.pick(&[0x01, 0x03, 0x07, 0x19, 0x1B, 0x2D, 0x3D, 0x49, 0x4B, 0x65, 0x67]);
-        noise[1] = random.between(0, 16) as u8;
+        noise[0] =
+            random.pick(&[0x01, 0x03, 0x07, 0x19, 0x1B, 0x25, 0x2D, 0x3D, 0x49, 0x4B, 0x65, 0x67]);
+        noise[1] = random.between(0, 17) as u8;
     }
     noise
 }

@@ -28,7 +28,7 @@ pub(crate) struct Style {
     pub calls: u16,
 }
 
-pub(crate) const STYLES: [Style; 11] = [
+pub(crate) const STYLES: [Style; 13] = [
     // Many short values: the rows run out.
     Style {
         kinds: &[5, 5, 6, 9, 9, 9, 9, 9, 10, 11, 11, 11, 11, 11, 12, 13, 14],
@@ -51,7 +51,7 @@ pub(crate) const STYLES: [Style; 11] = [
     },
     // Values of every length.
     Style {
-        kinds: &[1, 4, 5, 5, 6, 7, 8, 9, 9, 10, 10, 11, 11, 12, 12, 13, 14, 15, LINK],
+        kinds: &[1, 4, 5, 5, 6, 7, 8, 9, 9, 10, 10, 11, 11, 12, 12, 13, 14, 15, 16, LINK],
         values: (0, 256),
         alphabet: 256,
         draws: 1 << 48,
@@ -61,7 +61,7 @@ pub(crate) const STYLES: [Style; 11] = [
     },
     // Tenants come and go.
     Style {
-        kinds: &[1, 1, 4, 4, 5, 5, 6, 6, 9, 10, 11, 12, 13, 14, 14, 15, LINK, LINK],
+        kinds: &[1, 1, 4, 4, 5, 5, 6, 6, 9, 10, 11, 12, 13, 14, 14, 15, 16, LINK, LINK],
         values: (0, 40),
         alphabet: 256,
         draws: 3,
@@ -71,7 +71,7 @@ pub(crate) const STYLES: [Style; 11] = [
     },
     // The same few pairs and handles again and again.
     Style {
-        kinds: &[1, 5, 6, 9, 9, 9, 10, 10, 11, 11, 11, 12, 12, 13, 14],
+        kinds: &[1, 5, 6, 9, 9, 9, 10, 10, 11, 11, 11, 12, 12, 13, 14, 16],
         values: (0, 3),
         alphabet: 2,
         draws: 1,
@@ -101,7 +101,7 @@ pub(crate) const STYLES: [Style; 11] = [
     },
     // Values handed on and checked.
     Style {
-        kinds: &[5, 6, 9, 10, 10, 10, 11, 11, 12, 12, 12, 12, 14, 14, 15, 15, LINK, LINK],
+        kinds: &[5, 6, 9, 10, 10, 10, 11, 11, 12, 12, 12, 12, 14, 14, 15, 15, 16, LINK, LINK],
         values: (0, 64),
         alphabet: 16,
         draws: 5,
@@ -111,13 +111,33 @@ pub(crate) const STYLES: [Style; 11] = [
     },
     // Every second call is loose.
     Style {
-        kinds: &[1, 4, 5, 6, 7, 8, 9, 9, 10, 11, 11, 12, 13, 14, 15, LINK],
+        kinds: &[1, 4, 5, 6, 7, 8, 9, 9, 10, 11, 11, 12, 13, 14, 15, 16, LINK],
         values: (0, 256),
         alphabet: 8,
         draws: 4,
         identities: 3,
         loose: 2,
         calls: 200,
+    },
+    // Long values, given up again: the freed bytes serve, and the rows run out.
+    Style {
+        kinds: &[5, 5, 6, 6, 11, 11, 11, 11, 12, 12, 13, 14, 16, 16],
+        values: (100, 256),
+        alphabet: 256,
+        draws: 2,
+        identities: 2,
+        loose: 30,
+        calls: 400,
+    },
+    // Short values of one draw, some of no bytes, given up and escrowed again.
+    Style {
+        kinds: &[5, 6, 6, 11, 11, 11, 12, 12, 12, 13, 14, 16, 16],
+        values: (0, 2),
+        alphabet: 256,
+        draws: 1,
+        identities: 3,
+        loose: 25,
+        calls: 300,
     },
     // Chains of many links, for one recipient or another.
     Style {
@@ -131,7 +151,7 @@ pub(crate) const STYLES: [Style; 11] = [
     },
     // Short chains: heads of every sort, few draws, tenants that come and go.
     Style {
-        kinds: &[1, 4, 5, 9, 11, 14, 14, 15, 15, 15, 15, LINK, LINK, LINK],
+        kinds: &[1, 4, 5, 9, 11, 14, 14, 15, 15, 15, 15, 16, LINK, LINK, LINK],
         values: (0, 18),
         alphabet: 5,
         draws: 3,
@@ -175,7 +195,7 @@ pub(crate) const LEVEL_ONE_STYLES: [Style; 6] = [
     },
     // Escrow and chains, as a full paper has them.
     Style {
-        kinds: &[1, 4, 5, 6, 9, 9, 10, 11, 11, 12, 12, 13, 14, 15, 15, LINK, LINK],
+        kinds: &[1, 4, 5, 6, 9, 9, 10, 11, 11, 12, 12, 13, 14, 15, 15, 16, LINK, LINK],
         values: (0, 40),
         alphabet: 256,
         draws: 1 << 48,
@@ -195,7 +215,7 @@ pub(crate) const LEVEL_ONE_STYLES: [Style; 6] = [
     },
     // Every second call is loose.
     Style {
-        kinds: &[1, 4, 5, 6, 7, 8, 9, 9, 10, 11, 12, 13, 14, 15],
+        kinds: &[1, 4, 5, 6, 7, 8, 9, 9, 10, 11, 12, 13, 14, 15, 16],
         values: (0, 256),
         alphabet: 8,
         draws: 4,

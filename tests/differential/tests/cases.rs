@@ -2,7 +2,7 @@
 
 use std::collections::HashSet;
 
-use differential::{cases, lines, Chains, HandOvers, LevelOne, LAYOUTS};
+use differential::{cases, lines, Chains, HandOvers, LevelOne, Releases, LAYOUTS};
 use second::{sheet, sheet_level_one};
 
 #[test]
@@ -90,6 +90,22 @@ fn chains_of_each_sort() {
     }
     println!("{chains}");
     assert!(chains.each_above(20), "{chains}");
+}
+
+/// The cases have releases of each sort. Each answer follows from what the records
+/// before it and their lines tell, in the sheets of `second` and in those written by
+/// hand.
+#[test]
+fn releases_of_each_sort() {
+    let (mut releases, mut by_hand) = (Releases::default(), Releases::default());
+    for case in cases::all() {
+        assert!(releases.count(&case.script, &sheet(&case.script)), "{}", case.name);
+        if let Some(written) = &case.sheet {
+            assert!(by_hand.count(&case.script, written.as_bytes()), "{}", case.name);
+        }
+    }
+    println!("{releases}\nby hand, {by_hand}");
+    assert!(releases.each_above(20) && by_hand.each_above(5), "{releases}\n{by_hand}");
 }
 
 /// Every field of every kind is cut at every byte, at the front of a script and

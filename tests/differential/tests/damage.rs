@@ -1,7 +1,7 @@
 //! The damages break what they say, and `second` answers 15 to every call on a
 //! damaged box, under either profile, and alters nothing.
 
-use differential::calls::{attest, chain, create, hand_over, record_of};
+use differential::calls::{attest, chain, create, hand_over, record_of, release};
 use differential::records::{any, output_size, Known, WRONG_OUTPUT_SIZES};
 use differential::{bases, broken, damages, pairs, play, scramble, Clause, Random};
 use second::{call, call_level_one, is_sound, Answer, Call, Host, NONE_RUNS, OUTPUT_SIZE};
@@ -12,8 +12,9 @@ const REFUSED: Answer = Answer { code: 15, number: 0, used: 0, shown: 0 };
 fn records() -> Vec<Vec<u8>> {
     let bytes: [&[u8]; 7] = [&[], &[2], &[1], &[3, 2, 0], &[1, 14], &[0x67, 15, 1], &[7, 1, 0, 1]];
     let chain = chain(2, 77, 1, b"\x01\x00\x01");
+    let release = release(77, 3 << 48);
     let calls = [Call::Report, hand_over(NONE_RUNS), Call::Exit, create(9, 1), attest(1, 2), chain];
-    let calls = calls.iter().map(record_of);
+    let calls = calls.iter().chain([&release]).map(record_of);
     bytes.iter().map(|bytes| bytes.to_vec()).chain(calls).collect()
 }
 
@@ -42,9 +43,12 @@ fn bases_are_sound() {
         assert_eq!(broken(&host), []);
         assert!(is_sound(&host.lend()));
     }
-    let [_, _, rows, bytes] = bases();
+    let [_, _, rows, bytes, released] = bases();
     assert_eq!((rows.record.log_rows, rows.record.escrow_rows), (64, 64));
     assert_eq!((bytes.record.log_bytes, bytes.record.escrow_bytes), (4_096, 4_096));
+    let marks: Vec<u8> = released.escrow[..10].iter().map(|row| row.mark).collect();
+    assert_eq!(marks, [1, 0, 0, 1, 0, 1, 1, 0, 1, 0]);
+    assert_eq!((released.record.escrow_rows, released.record.escrow_bytes), (9, 8));
 }
 
 /// Each damage breaks its clause on every base that it fits, and on one of them
@@ -73,8 +77,8 @@ fn every_clause_has_a_damage() {
     let clauses = [
         HeapsSize, SharedSize, LogSize, LogValuesSize, EscrowSize, EscrowValuesSize, Running,
         Identities, EmptyHeaps, Counts, LogFollows, EscrowFollows, LogLengths, EscrowLengths,
-        LogIdentities, EscrowIdentities, Pairs, Tags, Handles, HandleLengths, UnusedLogRows,
-        UnusedEscrowRows, UnusedLogBytes, UnusedEscrowBytes,
+        LogIdentities, EscrowIdentities, Pairs, Tags, Handles, HandleLengths, Marks, SpentLengths,
+        UnusedLogRows, UnusedEscrowRows, UnusedLogBytes, UnusedEscrowBytes,
     ];
     for clause in clauses {
         assert!(damages().iter().any(|damage| damage.clause == clause), "{clause:?}");

@@ -28,6 +28,7 @@ struct Row {
     source: u64,
     recipient: u64,
     handle: u64,
+    spent: bool,
 }
 
 /// An accepted protect: the rows before it, what it asks for, and the handle.
@@ -83,6 +84,7 @@ fn protects() -> Vec<Protect> {
                     source: row.source,
                     recipient: row.recipient,
                     handle: row.handle,
+                    spent: row.spent,
                 });
                 protects.push(Protect {
                     rows: rows.collect(),
@@ -141,7 +143,7 @@ fn other_sequences_are_told_apart() {
 type Search = fn(&Protect) -> Option<u64>;
 
 /// Wrong ones.
-const SEARCHES: [(&str, Search); 9] = [
+const SEARCHES: [(&str, Search); 10] = [
     ("none", |protect| protect.candidate(0)),
     ("from the next draw on", |protect| protect.first_free(next(protect.draw), next, |_| true)),
     ("of draws, whatever the length", |protect| {
@@ -154,6 +156,9 @@ const SEARCHES: [(&str, Search); 9] = [
     }),
     ("in the source's rows", |protect| {
         protect.first_free(protect.draw, next, |row| row.source == protect.source)
+    }),
+    ("in the rows that aren't spent", |protect| {
+        protect.first_free(protect.draw, next, |row| !row.spent)
     }),
     ("of one step", |protect| protect.candidate(usize::from(protect.in_use(0)))),
     ("of as many steps as there are rows", |protect| protect.candidate(protect.rows.len())),

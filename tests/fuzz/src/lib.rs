@@ -2,8 +2,8 @@
 //! box and `second` must agree after each call, in the number too, and never
 //! answer 5, which is retired. Each call is made under both profiles, the full box
 //! and level one, and goes on with one of them. What a cut record misses is tried
-//! out; where a chain leads, which handle is free, and what level one refuses, is
-//! told from the tables.
+//! out; where a chain leads, which handle is free, what a release gets, and what level
+//! one refuses, is told from the tables.
 
 #![deny(unsafe_op_in_unsafe_fn)]
 
@@ -11,7 +11,7 @@ use std::slice;
 
 use differential::draws::after;
 use differential::records::WRONG_OUTPUT_SIZES;
-use differential::{bases, hand_made, play, Chains, Draws, Held, LevelOne, Traced};
+use differential::{bases, hand_made, play, Chains, Draws, Held, LevelOne, Releases, Traced};
 use interface::{write, Both, Fields, Profile, Sides};
 use second::{read, Answer, Call, EscrowRow, Host, LogRow, DRAW_LIMIT, OUTPUT_SIZE, ROWS};
 
@@ -62,7 +62,7 @@ impl Input<'_> {
 fn alter(host: &mut Host, input: &mut Input) {
     let (part, at, value) = (input.byte(), input.word(), input.word());
     let short = value as u16;
-    match part % 21 {
+    match part % 22 {
         0 => host.record.taken ^= short,
         1 => host.record.running = value as u8,
         2 => host.record.identities[at % 16] = value as u64,
@@ -78,6 +78,7 @@ fn alter(host: &mut Host, input: &mut Input) {
         17 => set(&mut host.log_values, at, value),
         18 => set(&mut host.escrow_values, at, value),
         19 => redraw(&mut host.escrow, at, value),
+        20 => mark(&mut host.escrow, at, value),
         _ => resize(host, at, value),
     }
 }
@@ -110,6 +111,16 @@ fn redraw(rows: &mut [EscrowRow], at: usize, value: usize) {
     }
 }
 
+/// A row's mark becomes any byte, and its length 0 where the second byte says so.
+fn mark(rows: &mut [EscrowRow], at: usize, value: usize) {
+    if let Some(row) = rows.get_mut(at % ROWS) {
+        row.mark = value as u8;
+        if value / 256 % 2 == 1 {
+            row.length = 0;
+        }
+    }
+}
+
 fn set(bytes: &mut [u8], at: usize, value: usize) {
     let at = at % bytes.len().max(1);
     if let Some(byte) = bytes.get_mut(at) {
@@ -139,6 +150,7 @@ fn calls(profile: Profile, mut sides: Sides, mut rest: &[u8]) {
         }
         chain(&sides, rest, &both.full.0);
         handle(&sides, rest, &both.full.0);
+        release(&sides, rest, &both.full.0);
         level_one(&sides, rest, &both);
         let (answer, left) = match profile {
             Profile::Full => both.full,
@@ -185,6 +197,17 @@ fn handle(sides: &Sides, record: &[u8], answer: &Answer) {
     }
     let held = Held::of(&sides.second);
     let follows = Draws::default().add(&held, record, answer.code, answer.number);
+    assert!(follows, "{answer:?}: {record:02x?}");
+}
+
+/// The answer to a release, a retrieve, a protect or a report is the one that follows
+/// from what the tables hold.
+fn release(sides: &Sides, record: &[u8], answer: &Answer) {
+    if answer.used == 0 || !matches!(record[1], 11 | 12 | 13 | 16) {
+        return;
+    }
+    let traced = Traced::of(&sides.second);
+    let follows = Releases::default().add(&traced, record, answer.code, answer.number);
     assert!(follows, "{answer:?}: {record:02x?}");
 }
 

@@ -1,5 +1,5 @@
 //! The example paper, then every other kind of call, then hand overs of each
-//! sort, then chains.
+//! sort, then chains, then releases.
 
 use interface::{fresh, write, BoxRecord, EscrowRow, Fields, Host, LogRow, Tally, Used};
 
@@ -13,6 +13,8 @@ const END_TAG: u64 = 8_750_169_272_185_725_317;
 /// The handles of length 17 and draws 9 and 10.
 const LINK: u64 = 4_785_074_604_081_161;
 const OWN: u64 = 4_785_074_604_081_162;
+/// The handle of length 17 and the draw after 9, which is 226,934,135,264.
+const AFTER_LINK: u64 = 4_785_301_538_216_416;
 /// The first names the end that identity 3 logged, the second its own handle.
 const LINK_VALUE: [u8; 17] =
     [2, 3, 0, 0, 0, 0, 0, 0, 0, 0x85, 0x21, 0x2B, 0xB9, 0x97, 0xD8, 0x6E, 0x79];
@@ -59,7 +61,7 @@ const EXAMPLE: [Step; 7] = [
         alters: |host| {
             host.held.escrow = Used { rows: 1, bytes: 1 };
             host.escrow()[0] =
-                EscrowRow { source: 1, recipient: 1, handle: HANDLE, first: 0, length: 1 };
+                EscrowRow { source: 1, recipient: 1, handle: HANDLE, first: 0, length: 1, mark: 0 };
             host.escrow_values()[0] = 0x41;
         },
     },
@@ -296,7 +298,7 @@ const CHAINS: [Step; 22] = [
         alters: |host| {
             host.held.escrow = Used { rows: 2, bytes: 18 };
             host.escrow()[1] =
-                EscrowRow { source: 3, recipient: 3, handle: LINK, first: 1, length: 17 };
+                EscrowRow { source: 3, recipient: 3, handle: LINK, first: 1, length: 17, mark: 0 };
             host.escrow_values()[1..18].copy_from_slice(&LINK_VALUE);
         },
     },
@@ -389,7 +391,7 @@ const CHAINS: [Step; 22] = [
         alters: |host| {
             host.held.escrow = Used { rows: 3, bytes: 35 };
             host.escrow()[2] =
-                EscrowRow { source: 3, recipient: 3, handle: OWN, first: 18, length: 17 };
+                EscrowRow { source: 3, recipient: 3, handle: OWN, first: 18, length: 17, mark: 0 };
             host.escrow_values()[18..35].copy_from_slice(&OWN_VALUE);
         },
     },
@@ -434,6 +436,140 @@ const CHAINS: [Step; 22] = [
     },
 ];
 
+/// After the chains: identity 3 gives up its first value, between another's and its
+/// second, which moves down; then that one, behind it; then identity 4 what 3 protects for
+/// it. What the chains named is gone.
+#[rustfmt::skip]
+const RELEASES: [Step; 17] = [
+    Step {
+        kind: 16, fields: Fields { identity: 3, number: LINK, ..NO_FIELDS }, bytes: &[],
+        record: &[0x25, 0x10, 3, 0, 0, 0, 0, 0, 0, 0, 9, 0, 0, 0, 0, 0, 0x11, 0],
+        answer: (4, 0, 0),
+        alters: |_| (),
+    },
+    Step {
+        kind: 14, fields: Fields { place: 15, ..NO_FIELDS }, bytes: &[],
+        record: &[0x03, 0x0E, 0x0F], answer: (0, 0, 0),
+        alters: |host| host.held.running = 15,
+    },
+    Step {
+        kind: 16, fields: Fields { identity: 3, number: LINK, ..NO_FIELDS }, bytes: &[],
+        record: &[0x25, 0x10, 3, 0, 0, 0, 0, 0, 0, 0, 9, 0, 0, 0, 0, 0, 0x11, 0],
+        answer: (10, 0, 0),
+        alters: |_| (),
+    },
+    Step {
+        kind: 14, fields: Fields { place: 2, ..NO_FIELDS }, bytes: &[],
+        record: &[0x03, 0x0E, 2], answer: (0, 0, 0),
+        alters: |host| host.held.running = 2,
+    },
+    Step {
+        kind: 16, fields: Fields { number: LINK, ..NO_FIELDS }, bytes: &[],
+        record: &[0x25, 0x10, 0, 0, 0, 0, 0, 0, 0, 0, 9, 0, 0, 0, 0, 0, 0x11, 0],
+        answer: (9, 0, 0),
+        alters: |_| (),
+    },
+    Step {
+        kind: 16, fields: Fields { identity: 1, number: HANDLE, ..NO_FIELDS }, bytes: &[],
+        record: &[0x25, 0x10, 1, 0, 0, 0, 0, 0, 0, 0, 7, 0, 0, 0, 0, 0, 1, 0],
+        answer: (10, 0, 0),
+        alters: |_| (),
+    },
+    Step {
+        kind: 16, fields: Fields { identity: 3, number: LINK, ..NO_FIELDS }, bytes: &[],
+        record: &[0x25, 0x10, 3, 0, 0, 0, 0, 0, 0, 0, 9, 0, 0, 0, 0, 0, 0x11, 0],
+        answer: (0, 0, 0),
+        alters: |host| {
+            host.held.escrow = Used { rows: 3, bytes: 18 };
+            host.escrow()[1].length = 0;
+            host.escrow()[1].mark = 1;
+            host.escrow()[2].first = 1;
+            host.escrow_values()[1..18].copy_from_slice(&OWN_VALUE);
+            host.escrow_values()[18..35].fill(0);
+        },
+    },
+    Step {
+        kind: 16, fields: Fields { identity: 3, number: LINK, ..NO_FIELDS }, bytes: &[],
+        record: &[0x25, 0x10, 3, 0, 0, 0, 0, 0, 0, 0, 9, 0, 0, 0, 0, 0, 0x11, 0],
+        answer: (10, 0, 0),
+        alters: |_| (),
+    },
+    Step {
+        kind: 12, fields: Fields { identity: 3, number: LINK, ..NO_FIELDS }, bytes: &[],
+        record: &[0x2D, 0x0C, 3, 0, 0, 0, 0, 0, 0, 0, 0, 0, 9, 0, 0, 0, 0, 0, 0x11, 0],
+        answer: (10, 0, 0),
+        alters: |_| (),
+    },
+    Step {
+        kind: 15, fields: Fields { place: 3, identity: 3, number: LINK, ..NO_FIELDS },
+        bytes: &[1, 0, 1],
+        record: &[
+            0x67, 0x0F, 3, 3, 0, 0, 0, 0, 0, 0, 0,
+            9, 0, 0, 0, 0, 0, 0x11, 0, 3, 0, 1, 0, 1,
+        ],
+        answer: (18, 0, 0),
+        alters: |_| (),
+    },
+    Step {
+        kind: 12, fields: Fields { identity: 3, offset: 100, number: OWN, ..NO_FIELDS },
+        bytes: &[],
+        record: &[0x2D, 0x0C, 3, 0, 0, 0, 0, 0, 0, 0, 100, 0, 0x0A, 0, 0, 0, 0, 0, 0x11, 0],
+        answer: (0, 17, 0),
+        alters: |host| host.heaps()[612..629].copy_from_slice(&OWN_VALUE),
+    },
+    Step {
+        kind: 16, fields: Fields { identity: 3, number: OWN, ..NO_FIELDS }, bytes: &[],
+        record: &[0x25, 0x10, 3, 0, 0, 0, 0, 0, 0, 0, 0x0A, 0, 0, 0, 0, 0, 0x11, 0],
+        answer: (0, 0, 0),
+        alters: |host| {
+            host.held.escrow = Used { rows: 3, bytes: 1 };
+            host.escrow()[2].length = 0;
+            host.escrow()[2].mark = 1;
+            host.escrow_values()[1..18].fill(0);
+        },
+    },
+    Step {
+        kind: 11, fields: Fields { identity: 4, length: 17, number: 9, ..NO_FIELDS }, bytes: &[],
+        record: &[
+            0x3D, 0x0B, 4, 0, 0, 0, 0, 0, 0, 0, 0, 0,
+            0x11, 0, 9, 0, 0, 0, 0, 0, 0, 0,
+        ],
+        answer: (0, AFTER_LINK, 0),
+        alters: |host| {
+            host.held.escrow = Used { rows: 4, bytes: 18 };
+            host.escrow()[3] =
+                EscrowRow { source: 3, recipient: 4, handle: AFTER_LINK, first: 1, length: 17, mark: 0 };
+            host.escrow_values()[1..18].copy_from_slice(&OWN_VALUE);
+        },
+    },
+    Step {
+        kind: 16, fields: Fields { identity: 3, number: AFTER_LINK, ..NO_FIELDS }, bytes: &[],
+        record: &[0x25, 0x10, 3, 0, 0, 0, 0, 0, 0, 0, 0xE0, 0x19, 0x54, 0xD6, 0x34, 0, 0x11, 0],
+        answer: (10, 0, 0),
+        alters: |_| (),
+    },
+    Step {
+        kind: 14, fields: Fields { place: 15, ..NO_FIELDS }, bytes: &[],
+        record: &[0x03, 0x0E, 0x0F], answer: (0, 0, 0),
+        alters: |host| host.held.running = 15,
+    },
+    Step {
+        kind: 16, fields: Fields { identity: 3, number: AFTER_LINK, ..NO_FIELDS }, bytes: &[],
+        record: &[0x25, 0x10, 3, 0, 0, 0, 0, 0, 0, 0, 0xE0, 0x19, 0x54, 0xD6, 0x34, 0, 0x11, 0],
+        answer: (0, 0, 0),
+        alters: |host| {
+            host.held.escrow = Used { rows: 4, bytes: 1 };
+            host.escrow()[3].length = 0;
+            host.escrow()[3].mark = 1;
+            host.escrow_values()[1..18].fill(0);
+        },
+    },
+    Step {
+        kind: 13, fields: NO_FIELDS, bytes: &[],
+        record: &[0x01, 0x0D], answer: (0, 262_658, 0), alters: |_| (),
+    },
+];
+
 pub fn check(tally: &mut Tally) {
     let all_zeros = BoxRecord {
         taken: 0,
@@ -446,6 +582,7 @@ pub fn check(tally: &mut Tally) {
     let mut host = Host::fresh();
     host.output().fill(BEFORE);
     let steps = EXAMPLE.iter().chain(&OTHER_KINDS).chain(&HAND_OVERS).chain(&CHAINS);
+    let steps = steps.chain(&RELEASES);
     for (n, step) in steps.enumerate() {
         written(tally, n, step);
         called(tally, n, step, &mut host);

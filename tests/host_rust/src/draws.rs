@@ -51,7 +51,7 @@ fn given(tally: &mut Tally, host: &mut Host, length: u16, draw: u64, handle: u64
     let mut wanted = host.clone();
     let used = wanted.held.escrow;
     wanted.escrow()[usize::from(used.rows)] =
-        EscrowRow { source: 1, recipient: 1, handle, first: used.bytes, length };
+        EscrowRow { source: 1, recipient: 1, handle, first: used.bytes, length, mark: 0 };
     wanted.held.escrow.rows += 1;
     wanted.held.escrow.bytes += length;
     let reply = host.call(&record);

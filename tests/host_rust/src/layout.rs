@@ -25,7 +25,7 @@ pub fn check(tally: &mut Tally) {
     layout!(Used::default(), Used: 4, 2; rows: 0, bytes: 2);
     layout!(held, BoxRecord: 144, 8; taken: 0, running: 2, identities: 8, log: 136, escrow: 140);
     layout!(LogRow::default(), LogRow: 24, 8; identity: 0, tag: 8, first: 16, length: 18);
-    layout!(EscrowRow::default(), EscrowRow: 32, 8; source: 0, recipient: 8, handle: 16, first: 24, length: 26);
+    layout!(EscrowRow::default(), EscrowRow: 32, 8; source: 0, recipient: 8, handle: 16, first: 24, length: 26, mark: 28);
     layout!(Reply { held, code: 0, number: 0, used: 0, shown: 0 }, Reply: 176, 8; held: 0, code: 144, number: 152, used: 160, shown: 168);
     layout!(Fields::default(), Fields: 32, 8; place: 0, identity: 8, offset: 16, length: 18, number: 24);
     layout!(Written { code: 0, length: 0 }, Written: 16, 8; code: 0, length: 8);

@@ -26,6 +26,9 @@ const RETRIEVE_NO_ROW: &[u8] = &[0x2D, 0x0C, 2, 0, 0, 0, 0, 0, 0, 0, 4, 0, 8, 0,
 const CHAIN: &[u8] = &[0x67, 0x0F, 3, 2, 0, 0, 0, 0, 0, 0, 0, 7, 0, 0, 0, 0, 0, 1, 0, 0, 0];
 const CHAIN_NO_ROW: &[u8] = &[0x67, 0x0F, 3, 2, 0, 0, 0, 0, 0, 0, 0, 8, 0, 0, 0, 0, 0, 1, 0, 0, 0];
 const CHAIN_BY_1: &[u8] = &[0x67, 0x0F, 1, 2, 0, 0, 0, 0, 0, 0, 0, 7, 0, 0, 0, 0, 0, 1, 0, 0, 0];
+const RELEASE: &[u8] = &[0x25, 0x10, 2, 0, 0, 0, 0, 0, 0, 0, 7, 0, 0, 0, 0, 0, 1, 0];
+const RELEASE_FROM_0: &[u8] = &[0x25, 0x10, 0, 0, 0, 0, 0, 0, 0, 0, 7, 0, 0, 0, 0, 0, 1, 0];
+const RELEASE_NO_ROW: &[u8] = &[0x25, 0x10, 2, 0, 0, 0, 0, 0, 0, 0, 8, 0, 0, 0, 0, 0, 1, 0];
 const ATTEST_A: &[u8] = &[0x19, 0x09, 0, 0, 1, 0];
 const ATTEST_B: &[u8] = &[0x19, 0x09, 2, 0, 1, 0];
 const ATTEST_BEYOND: &[u8] = &[0x19, 0x09, 0, 1, 1, 0];
@@ -79,7 +82,8 @@ fn services(running: u8) -> Host {
     host.heaps()[..3].copy_from_slice(b"AAB");
     host.heaps()[256..259].copy_from_slice(b"AAB");
     host.held.escrow = Used { rows: 1, bytes: 1 };
-    host.escrow()[0] = EscrowRow { source: 2, recipient: 1, handle: HANDLE_7, first: 0, length: 1 };
+    host.escrow()[0] =
+        EscrowRow { source: 2, recipient: 1, handle: HANDLE_7, first: 0, length: 1, mark: 0 };
     host.escrow_values()[0] = 1;
     host
 }
@@ -99,16 +103,25 @@ fn takes(host: &mut Host, place: u8) {
 
 fn nothing(_: &mut Host) {}
 
+/// The only value is released.
+fn spends(host: &mut Host) {
+    host.held.escrow = Used { rows: 1, bytes: 0 };
+    host.escrow()[0] =
+        EscrowRow { source: 2, recipient: 1, handle: HANDLE_7, first: 0, length: 0, mark: 1 };
+    host.escrow_values()[0] = 0;
+}
+
 /// 21 before 4 and every number behind it.
 fn escrow(tally: &mut Tally) {
     let mut idle = services(16);
-    for record in [PROTECT, PROTECT_FOR_0, PROTECT_BAD_DRAW, RETRIEVE, CHAIN, CHAIN_BY_1] {
+    let escrowed = [PROTECT, PROTECT_FOR_0, PROTECT_BAD_DRAW, RETRIEVE, CHAIN, CHAIN_BY_1];
+    for record in escrowed.into_iter().chain([RELEASE, RELEASE_FROM_0]) {
         called(tally, "none runs", &mut idle, &Step(record, (21, 4), 0, nothing));
     }
     let protected = |host: &mut Host| {
         host.held.escrow = Used { rows: 2, bytes: 2 };
         host.escrow()[1] =
-            EscrowRow { source: 1, recipient: 1, handle: HANDLE_9, first: 1, length: 1 };
+            EscrowRow { source: 1, recipient: 1, handle: HANDLE_9, first: 1, length: 1, mark: 0 };
         host.escrow_values()[1] = b'A';
     };
     let steps = [
@@ -122,9 +135,21 @@ fn escrow(tally: &mut Tally) {
         Step(CHAIN, (21, 0), 1, nothing),
         Step(CHAIN_NO_ROW, (21, 18), 0, nothing),
         Step(CHAIN_BY_1, (21, 19), 0, nothing),
+        Step(RELEASE, (21, 0), 0, spends),
+        Step(RELEASE_FROM_0, (21, 9), 0, nothing),
+        Step(RELEASE_NO_ROW, (21, 10), 0, nothing),
         Step(REPORT, (0, 0), 3 + 65_536, nothing),
     ];
     all_called(tally, "one runs", &mut services(0), &steps);
+    let mut spent = services(0);
+    spends(&mut spent);
+    let steps = [
+        Step(RELEASE, (21, 10), 0, nothing),
+        Step(RETRIEVE, (21, 10), 0, nothing),
+        Step(CHAIN, (21, 18), 0, nothing),
+        Step(REPORT, (0, 0), 3 + 65_536, nothing),
+    ];
+    all_called(tally, "a spent row", &mut spent, &steps);
 }
 
 /// 22 after 6, before 7 and 9.
@@ -229,7 +254,8 @@ const CREATE_4: &[u8] = &[0x07, 0x01, 4, 4, 0, 0, 0, 0, 0, 0, 0];
 const HAND_OVER_5: &[u8] = &[0x03, 0x0E, 5];
 /// Level one gives these 21, 22 and 23 where "A" is logged by identity 1, which
 /// runs.
-const OWN_NUMBERS: [&[u8]; 6] = [PROTECT, RETRIEVE, CHAIN, CREATE_4, HAND_OVER_5, ATTEST_B];
+const OWN_NUMBERS: [&[u8]; 7] =
+    [PROTECT, RETRIEVE, CHAIN, RELEASE, CREATE_4, HAND_OVER_5, ATTEST_B];
 
 /// 15 before all.
 fn not_sound(tally: &mut Tally) {
@@ -251,7 +277,7 @@ fn not_sound(tally: &mut Tally) {
             refused(tally, "not sound, or a wrong size", host, record, (15, 0));
         }
     }
-    for (record, code) in OWN_NUMBERS.into_iter().zip([21, 21, 21, 22, 22, 23]) {
+    for (record, code) in OWN_NUMBERS.into_iter().zip([21, 21, 21, 21, 22, 22, 23]) {
         let reply = sound.clone().call_level_one(record);
         tally.check(reply.code == code, || format!("{record:02x?}: {}", reply.code));
     }
@@ -267,8 +293,8 @@ fn reader(tally: &mut Tally) {
         let (mut map, mut kind) = (record.to_vec(), record.to_vec());
         map[0] ^= 0x80;
         refused(tally, "another map", &host, &map, (3, 0));
-        kind[1] = 16;
-        refused(tally, "kind 16", &host, &kind, (2, 0));
+        kind[1] = 17;
+        refused(tally, "kind 17", &host, &kind, (2, 0));
     }
     for (end, missing) in [(2, 8), (3, 7), (10, 2), (13, 1), (14, 8), (21, 1)] {
         refused(tally, "protect cut", &host, &PROTECT[..end], (1, missing));

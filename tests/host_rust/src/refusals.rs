@@ -72,6 +72,14 @@ fn damaged(tally: &mut Tally) {
     let mut host = after_example();
     host.escrow()[0].handle += 1 << 48;
     refused(tally, "a handle of another length", &mut host, REPORT, (15, 0));
+    for mark in 1..=255 {
+        let mut host = after_example();
+        host.escrow()[0].mark = mark;
+        refused(tally, "a value's row with a mark", &mut host, REPORT, (15, 0));
+        let mut host = after_example();
+        host.escrow()[1].mark = mark;
+        refused(tally, "an unused row with a mark", &mut host, REPORT, (15, 0));
+    }
     let mut host = after_example();
     host.log_values()[4_095] = 1;
     refused(tally, "an unused value byte", &mut host, &[], (15, 0));
@@ -80,19 +88,23 @@ fn damaged(tally: &mut Tally) {
 fn records(tally: &mut Tally) {
     let mut host = after_example();
     refused(tally, "no kind", &mut host, &[0x02], (2, 0));
-    refused(tally, "kind 16", &mut host, &[0x01, 0x10], (2, 0));
-    refused(tally, "kind 16 with a chain's map", &mut host, &[0x67, 0x10, 2], (2, 0));
+    refused(tally, "kind 17", &mut host, &[0x01, 0x11], (2, 0));
+    refused(tally, "kind 17 with a release's map", &mut host, &[0x25, 0x11, 2], (2, 0));
     refused(tally, "kind 2, retired", &mut host, &[0x03, 0x02, 0], (2, 0));
     refused(tally, "kind 2, retired, cut", &mut host, &[0x03, 0x02], (2, 0));
     refused(tally, "kind 3, retired", &mut host, &[0x01, 0x03], (2, 0));
     refused(tally, "another map", &mut host, &[0x03, 0x0D, 0], (3, 0));
     refused(tally, "hand over with another map", &mut host, &[0x01, 0x0E], (3, 0));
     refused(tally, "chain with check's map", &mut host, &[0x65, 0x0F, 2], (3, 0));
+    refused(tally, "release with a chain's map", &mut host, &[0x67, 0x10, 2], (3, 0));
+    refused(tally, "release with retrieve's map", &mut host, &[0x2D, 0x10], (3, 0));
     refused(tally, "a cut record with another map", &mut host, &[0x4B, 0x07, 0], (3, 0));
     refused(tally, "a cut record of kind 0", &mut host, &[0x07, 0], (2, 0));
     refused(tally, "exit while none runs", &mut host, &[0x01, 0x04, 0xFF], (4, 2));
     let chain = [&[0x67, 0x0F][..], &[0; 19], &[0xFF]].concat();
     refused(tally, "chain while none runs", &mut host, &chain, (4, 21));
+    let release = [&[0x25, 0x10][..], &[0; 16], &[0xFF]].concat();
+    refused(tally, "release while none runs", &mut host, &release, (4, 18));
     refused(tally, "hand over to 17", &mut host, &[0x03, 0x0E, 17], (6, 3));
     refused(tally, "hand over to an empty place", &mut host, &[0x03, 0x0E, 1], (7, 3));
 }
@@ -106,7 +118,8 @@ fn cut_records(tally: &mut Tally) {
     let check = b"\x65\x0A\x01\0\0\0\0\0\0\0\x1F\xA2\xF5\x8F\xDC\x6D\x9A\x52\x01\x00A";
     let protect = b"\x3D\x0B\x01\0\0\0\0\0\0\0\x00\x00\x01\x00\x07\0\0\0\0\0\0\0";
     let chain = b"\x67\x0F\x02\x01\0\0\0\0\0\0\0\x1F\xA2\xF5\x8F\xDC\x6D\x9A\x52\x03\x00\x01\x00A";
-    let records: [(&str, &[u8], &[u64]); 8] = [
+    let release = b"\x25\x10\x01\0\0\0\0\0\0\0\x07\0\0\0\0\0\x01\0";
+    let records: [(&str, &[u8], &[u64]); 9] = [
         ("create", create, &[1, 1, 1, 8, 7, 6, 5, 4, 3, 2, 1]),
         ("hand over", hand_over, &[1, 1, 1]),
         ("report", REPORT, &[1, 1]),
@@ -114,6 +127,7 @@ fn cut_records(tally: &mut Tally) {
         ("shared write", shared_write, &[1, 1, 2, 1, 2, 1, 4, 3, 2, 1]),
         ("check", check, &[1, 1, 8, 7, 6, 5, 4, 3, 2, 1, 8, 7, 6, 5, 4, 3, 2, 1, 2, 1, 1]),
         ("chain", chain, &[1, 1, 1, 8, 7, 6, 5, 4, 3, 2, 1, 8, 7, 6, 5, 4, 3, 2, 1, 2, 1, 3, 2, 1]),
+        ("release", release, &[1, 1, 8, 7, 6, 5, 4, 3, 2, 1, 8, 7, 6, 5, 4, 3, 2, 1]),
         ("protect", protect, &[1, 1, 8, 7, 6, 5, 4, 3, 2, 1, 2, 1, 2, 1, 8, 7, 6, 5, 4, 3, 2, 1]),
     ];
     for (name, record, missing) in records {
@@ -176,7 +190,8 @@ fn writer(tally: &mut Tally) {
     refused("kind 0", 0, &[], 64, 2);
     refused("kind 2, retired", 2, &[], 64, 2);
     refused("kind 3, retired, in no bytes", 3, &[], 0, 2);
-    refused("kind 16 in no bytes", 16, &[], 0, 2);
+    refused("kind 17 in no bytes", 17, &[], 0, 2);
+    refused("a release in 17 bytes", 16, &[], 17, 17);
     refused("a chain in 20 bytes", 15, &[], 20, 17);
     refused("a chain with 65,536 bytes", 15, &[1; 65_536], 70_000, 17);
 }

@@ -40,6 +40,7 @@ pub struct EscrowRow {
     pub handle: u64,
     pub first: u16,
     pub length: u16,
+    pub mark: u8,
 }
 
 /// `struct caif_reply`.

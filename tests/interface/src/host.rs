@@ -49,8 +49,14 @@ impl<T: Copy + PartialEq> Guarded<T> {
 const BYTE: u8 = 0xA5;
 const WORD: u64 = 0xA5A5_A5A5_A5A5_A5A5;
 const LOG_ROW: LogRow = LogRow { identity: WORD, tag: WORD, first: 0xA5A5, length: 0xA5A5 };
-const ESCROW_ROW: EscrowRow =
-    EscrowRow { source: WORD, recipient: WORD, handle: WORD, first: 0xA5A5, length: 0xA5A5 };
+const ESCROW_ROW: EscrowRow = EscrowRow {
+    source: WORD,
+    recipient: WORD,
+    handle: WORD,
+    first: 0xA5A5,
+    length: 0xA5A5,
+    mark: 0xA5,
+};
 
 /// The lent buffers, in the header's order.
 #[derive(Clone, Copy, Debug)]
@@ -214,8 +220,8 @@ fn log_row(row: &second::LogRow) -> LogRow {
 }
 
 fn escrow_row(row: &second::EscrowRow) -> EscrowRow {
-    let second::EscrowRow { source, recipient, handle, first, length } = *row;
-    EscrowRow { source, recipient, handle: handle.0, first, length }
+    let second::EscrowRow { source, recipient, handle, first, length, mark } = *row;
+    EscrowRow { source, recipient, handle: handle.0, first, length, mark }
 }
 
 /// One box twice: on the C interface's side and on the side of `second`.

@@ -44,7 +44,7 @@ unfolding inEscrow ValueWithin unvouched absent entryFound
 returns-2 c =
     let f = c .before .before .before .before .before .before .before .if1 .left in (
       λ values log chain.
-          let none-found = not-given (rw (c .enum-told .given .1) at (c .before .before .find-row .ensures .1 values)) in
+          let none-found = not-given (rw (c .enum-told .given .1) at (c .before .before .find-row .ensures .1 .0 values)) in
           unknown log _ _ _ refl f (rw (← none-found)),
       λ values fits. tt,
     )
@@ -77,7 +77,7 @@ returns-3 c =
     let f = c .before .before .before .before .before .before .before .before .before .before .before .if1 .left in (
       λ values log chain.
           let found = foundOn (x .t1) (x .t2 .rows) values in
-          let one = given (rw (c .before .before .before .before .row .given .1) at (c .before .before .before .before .before .before .find-row .ensures .1 values)) in
+          let one = given (rw (c .before .before .before .before .row .given .1) at (c .before .before .before .before .before .before .find-row .ensures .1 .0 values)) in
           let is = known log found (escrowedLink (x .identity) (x .handle)) chain refl f (rw (← one)) in
           rw add-sub-cancel-left (rw (← one) at is),
       λ values fits. (omega arith, fits .fit _ (among (c .before .before .before))),

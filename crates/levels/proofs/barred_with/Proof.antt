@@ -31,6 +31,9 @@ enum-told-2 c = search needs
 enum-told-3 : tie.Need-enum-told-3
 enum-told-3 c = search needs
 
+enum-told-4 : tie.Need-enum-told-4
+enum-told-4 c = search needs
+
 returns : tie.Need-returns
 unfolding barredOn
 returns c = rw (c .before .before .called .given .1) (c .place-barred .ensures)
@@ -56,7 +59,11 @@ unfolding barredOn
 returns-6 c = rw (c .enum-told3 .given .1)
 
 returns-7 : tie.Need-returns-7
-returns-7 c = none-else _ _ _ _ _ (c .match .keys7)
+unfolding barredOn
+returns-7 c = rw (c .enum-told4 .given .1)
+
+returns-8 : tie.Need-returns-8
+returns-8 c = none-else _ _ _ _ _ (c .match .keys8)
 
 pub barred-with-spec : {M : Type 1} → statement M
 barred-with-spec =
@@ -71,10 +78,12 @@ barred-with-spec =
     enum-told
     enum-told-2
     enum-told-3
+    enum-told-4
     returns
     returns-2
     returns-3
     returns-4
     returns-5
     returns-6
-    returns-7)
+    returns-7
+    returns-8)

@@ -72,8 +72,13 @@ returns-12 c =
     (λ bs. rw (c .before .match .keys12, way .0, way .1), λ bs h. (h, c .first-link .ensures .1))
 
 returns-13 : tie.Need-returns-13
-unfolding callIn kinds CallWithin
+unfolding callIn callOf kindOf among kinds CallWithin
 returns-13 c =
+    (λ bs. rw (c .match .keys13), λ bs h. tt)
+
+returns-14 : tie.Need-returns-14
+unfolding callIn kinds CallWithin
+returns-14 c =
     (λ bs. sym (report-last _ _ _ _ (c .match .rest)), λ bs h. tt)
 
 pub call-of-spec : {M : Type 1} → statement M
@@ -93,4 +98,5 @@ call-of-spec =
     returns-10
     returns-11
     returns-12
-    returns-13)
+    returns-13
+    returns-14)

@@ -62,7 +62,7 @@ returns-3 c =
     let x = c .before .before .before .before .before .before .before .before .before .before .before .before .args in
     let e = ne-eqb _ _ (c .before .before .before .before .before .before .before .before .before .if1 .left) in
     let f = ne-eqb _ _ (c .before .before .before .before .before .before .before .before .if2 .left) in
-    let g = not-given (rw (c .before .enum-told .given .1) at (c .before .before .before .find-row .ensures .1 (x .values .now))) in
+    let g = not-given (rw (c .before .enum-told .given .1) at (c .before .before .before .find-row .ensures .1 .0 (x .values .now))) in
     (rw (e, f, ← g) (c .refused3 .ensures), rw (e, f, ← g))
 
 -- the row that was found
@@ -73,7 +73,7 @@ found : (k : tie.After-known-told)
 found k =
     let s = k .before .before .before .before .before .before .before .before .before .before .before .before in
     let f = k .before .before .before .find-row .ensures in
-    row-found (k .before .i .given .1) (f .0) (f .1 (s .args .values .now)) (s .pre .2 .fit)
+    row-found (k .before .i .given .1) (f .0) (f .1 .0 (s .args .values .now)) (s .pre .2 .fit)
 
 -- the first two tests are passed
 past : (k : tie.After-known-told)

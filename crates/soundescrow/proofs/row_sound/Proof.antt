@@ -1,6 +1,6 @@
 use borrow.Author.Tests.{eq-eqb, ne-eqb, le-leb, lt-leb}
 use borrow.Author.Needs.{needs}
-use Rattle.ideal.specs.Soundness.{hasIdentities, carriesLength}
+use Rattle.ideal.specs.Soundness.{hasIdentities}
 use Rattle.soundness.specs.Tests.{rowSound, escrowRowRight}
 use Rattle.soundescrow.proofs.row_sound.Statement.{statement}
 use Rattle.soundescrow.proofs.row_sound.Tie as tie
@@ -26,16 +26,13 @@ unfolding rowSound escrowRowRight hasIdentities
 returns-4 c =
     simp (eq-eqb _ _ (c .before .before .before .before .before .before .if1 .left), le-leb _ _ (c .before .before .before .before .if2 .left), ne-eqb _ _ (c .before .before .if3 .left), eq-eqb _ _ (c .if4 .taken))
 
-length-of-requires : tie.Need-length-of-requires
-length-of-requires c κs = search needs
-
-cast-result : tie.Need-cast-result
-cast-result c = search needs
+length-right-requires : tie.Need-length-right-requires
+length-right-requires c κs = search needs
 
 returns-5 : tie.Need-returns-5
-unfolding rowSound escrowRowRight hasIdentities carriesLength
+unfolding rowSound escrowRowRight hasIdentities
 returns-5 c =
-    simp (eq-eqb _ _ (c .before .before .before .before .before .before .before .before .if1 .left), le-leb _ _ (c .before .before .before .before .before .before .if2 .left), ne-eqb _ _ (c .before .before .before .before .if3 .left), ne-eqb _ _ (c .before .before .if4 .left), c .before .length-of .ensures)
+    simp (eq-eqb _ _ (c .before .before .before .before .before .before .before .if1 .left), le-leb _ _ (c .before .before .before .before .before .if2 .left), ne-eqb _ _ (c .before .before .before .if3 .left), ne-eqb _ _ (c .before .if4 .left)) (c .length-right .ensures)
 
 pub row-sound-spec : {M : Type 1} → statement M
 row-sound-spec =
@@ -46,6 +43,5 @@ row-sound-spec =
     returns-2
     returns-3
     returns-4
-    length-of-requires
-    cast-result
+    length-right-requires
     returns-5)

@@ -27,11 +27,11 @@ abbrev μ-loop : tie.MeasureT-loop
 
 -- the bits joined so far are 0 and the rows to come blank just where all rows are sound
 abbrev Inv-loop2 : tie.InvT-loop2
-Inv-loop2 n end values rows at i₀ sources₀ recipients₀ handles₀ places₀ i sources recipients handles places =
-    (i ≤ 64) × (eqb (bitOr (bitOr (bitOr sources recipients) handles) places) 0 && every (escrowTable .isBlank) (drop i rows) ≡ bytesAndRows escrowTable escrowRowRight n end rows values)
+Inv-loop2 n end values rows at i₀ sources₀ recipients₀ handles₀ places₀ marks₀ i sources recipients handles places marks =
+    (i ≤ 64) × (eqb (bitOr (bitOr (bitOr (bitOr sources recipients) handles) places) marks) 0 && every (escrowTable .isBlank) (drop i rows) ≡ bytesAndRows escrowTable escrowRowRight n end rows values)
 
 abbrev μ-loop2 : tie.MeasureT-loop2
-μ-loop2 n end values rows at i₀ sources₀ recipients₀ handles₀ places₀ i sources recipients handles places = 64 - i
+μ-loop2 n end values rows at i₀ sources₀ recipients₀ handles₀ places₀ marks₀ i sources recipients handles places marks = 64 - i
 
 sub-all-zero : tie.Need-sub-all-zero Inv-loop μ-loop Inv-loop2 μ-loop2
 sub-all-zero c = search needs
@@ -133,6 +133,9 @@ mul-places c = search needs
 add-places : tie.Need-add-places Inv-loop μ-loop Inv-loop2 μ-loop2
 add-places c = search needs
 
+cast-marks : tie.Need-cast-marks Inv-loop μ-loop Inv-loop2 μ-loop2
+cast-marks c = search needs
+
 add-i-2 : tie.Need-add-i-2 Inv-loop μ-loop Inv-loop2 μ-loop2
 add-i-2 c = omega arith
 
@@ -142,16 +145,23 @@ loop2-less c = omega arith
 loop2-again : tie.Need-loop2-again Inv-loop μ-loop Inv-loop2 μ-loop2
 unfolding escrowBits
 loop2-again c =
-    let at = c .before .before .before .before .before .before .before in
+    let at = c .before .before .before .before .before .before .before .before in
     let entry = at .before .before .before .before .before .before .before .before in
     let rows = entry .args .t1 in
     let l = at .loop2 in
     let h : l .i < length rows = omega (arith, entry .good .0 .1 .0) in
     let row = getD rows (l .i) (escrowTable .blank) in
-    let two = join-more (bitOr (l .sources) (row .source)) (l .sources) (row .source) (l .recipients) (row .recipient) refl in
-    let three = join-more (bitOr (bitOr (l .sources) (row .source)) (bitOr (l .recipients) (row .recipient))) (bitOr (l .sources) (l .recipients)) (bitOr (row .source) (row .recipient)) (l .handles) (row .handle .0) two in
-    let apart = join-more (bitOr (bitOr (bitOr (l .sources) (row .source)) (bitOr (l .recipients) (row .recipient))) (bitOr (l .handles) (row .handle .0))) (bitOr (bitOr (l .sources) (l .recipients)) (l .handles)) (bitOr (bitOr (row .source) (row .recipient)) (row .handle .0)) (l .places) (row .first + row .length * 65536) three in
-    (omega arith, rw apart (sym (join-step (escrowTable .isBlank) escrowBits escrow-bits rows (escrowTable .blank) (bitOr (bitOr (bitOr (l .sources) (l .recipients)) (l .handles)) (l .places)) (l .i) h) ∙ l .inv .1))
+    let before = bitOr (bitOr (bitOr (l .sources) (l .recipients)) (l .handles)) (l .places) in
+    let here = bitOr (bitOr (bitOr (row .source) (row .recipient)) (row .handle .0)) (row .first + row .length * 65536) in
+    let one = bitOr (l .sources) (row .source) in
+    let two = bitOr one (bitOr (l .recipients) (row .recipient)) in
+    let three = bitOr two (bitOr (l .handles) (row .handle .0)) in
+    let four = bitOr three (bitOr (l .places) (row .first + row .length * 65536)) in
+    let two-is = join-more one (l .sources) (row .source) (l .recipients) (row .recipient) refl in
+    let three-is = join-more two (bitOr (l .sources) (l .recipients)) (bitOr (row .source) (row .recipient)) (l .handles) (row .handle .0) two-is in
+    let four-is = join-more three (bitOr (bitOr (l .sources) (l .recipients)) (l .handles)) (bitOr (bitOr (row .source) (row .recipient)) (row .handle .0)) (l .places) (row .first + row .length * 65536) three-is in
+    let apart = join-more four before here (l .marks) (row .mark) four-is in
+    (omega arith, rw apart (sym (join-step (escrowTable .isBlank) escrowBits escrow-bits rows (escrowTable .blank) (bitOr before (l .marks)) (l .i) h) ∙ l .inv .1))
 
 returns-4 : tie.Need-returns-4 Inv-loop μ-loop Inv-loop2 μ-loop2
 unfolding every
@@ -160,7 +170,7 @@ returns-4 c =
     let rows = entry .args .t1 in
     let l = c .before .loop2 in
     let e : l .i ≡ length rows = omega (arith, entry .good .0 .1 .0) in
-    sym (and-nil (eqb (bitOr (bitOr (bitOr (l .sources) (l .recipients)) (l .handles)) (l .places)) 0)) ∙ rw (e, drop-length rows) at (l .inv .1)
+    sym (and-nil (eqb (bitOr (bitOr (bitOr (bitOr (l .sources) (l .recipients)) (l .handles)) (l .places)) (l .marks)) 0)) ∙ rw (e, drop-length rows) at (l .inv .1)
 
 pub rows-sound-spec : {M : Type 1} → statement M
 rows-sound-spec =
@@ -193,6 +203,7 @@ rows-sound-spec =
     cast-places-2
     mul-places
     add-places
+    cast-marks
     add-i-2
     loop2-less
     loop2-again

@@ -4,6 +4,7 @@ use mathlib.Core.Bool.{false}
 use native.Mathlib.Omega.{arith}
 use lib.ListN.{length}
 use borrow.Author.Needs.{needs}
+use Rattle.state.proofs.Edited.{escrow-fits}
 use Rattle.soundness.specs.Parts.{tablesOf}
 use Rattle.turns.proofs.OneByOne.{Going, starts, at-end, at-room, part-length, further, some-used, more-fits, goes-on, at-last}
 use Rattle.turns.proofs.next_lines.Statement.{statement}
@@ -54,7 +55,7 @@ log-edited-requires : tie.Need-log-edited-requires Inv-loop μ-loop
 log-edited-requires c κs = c .before .before .before .before .before .before .before .before .before .before .before .next-line .ensures .1 .log .fits
 
 escrow-edited-requires : tie.Need-escrow-edited-requires Inv-loop μ-loop
-escrow-edited-requires c κs = c .before .before .before .before .before .before .before .before .before .before .before .before .next-line .ensures .1 .escrow .fits
+escrow-edited-requires c κs = escrow-fits (c .before .before .before .before .before .before .before .before .before .before .before .before .next-line .ensures .1 .escrow)
 
 add-used : tie.Need-add-used Inv-loop μ-loop
 add-used c =

@@ -24,7 +24,7 @@ pub enum Refusal {
     NotRunning,
     /// The identity is 0.
     ZeroIdentity,
-    /// No such escrow row.
+    /// No unspent escrow row has handle, source and recipient.
     NoSuchRow,
     /// Offset + length is beyond the heap or the shared memory.
     Beyond,
@@ -40,14 +40,14 @@ pub enum Refusal {
     ScriptTooLong,
     /// The writer's buffer is too short, or its bytes are too many.
     CannotWrite,
-    /// The check of a logged link is no, or an escrowed link has no row.
+    /// The check of a logged link is no, or an escrowed link has no unspent row.
     NoSuchLink,
     /// A link's way isn't 2 or 3, its logged value is cut in the chain bytes, its
     /// head is malformed, or bytes are left over at the end.
     BadChain,
     /// A link more, where sixteen have been followed.
     ChainTooLong,
-    /// Protect, retrieve or chain in the level-one paper.
+    /// Protect, retrieve, chain or release in the level-one paper.
     NoEscrow,
     /// The place of a create is above 3 in the level-one paper, or that of a hand
     /// over other than 16.

@@ -1,4 +1,4 @@
-//! The thirteen calls on a sound box, under a profile. Each tests its refusals in
+//! The fourteen calls on a sound box, under a profile. Each tests its refusals in
 //! rising order before it alters anything; a chain has an order of its own, link by
 //! link. The level-one paper's refusals stand out of that order: 21 before 4, 22
 //! directly after 6, 23 directly after 11.
@@ -12,7 +12,7 @@ use crate::record::{read, Call};
 use crate::sound::is_sound;
 use crate::tables::{
     BoxRecord, EscrowRow, Identity, LogRow, Place, Tables, HEAPS_SIZE, HEAP_SIZE, NONE_RUNS,
-    OUTPUT_SIZE, PLACES, ROWS, SHARED_SIZE, VALUES_SIZE,
+    OUTPUT_SIZE, PLACES, ROWS, SHARED_SIZE, SPENT, VALUES_SIZE,
 };
 use crate::tags::{free_handle, tag_of, Draw, Handle, Tag, DRAW_LIMIT};
 
@@ -129,6 +129,7 @@ impl<'a> SoundBox<'a> {
             Call::Report => Ok(self.report()),
             Call::HandOver { place } => self.hand_over(place).map(|()| 0),
             Call::Chain { first, bytes } => self.chain(first, bytes),
+            Call::Release { identity, handle } => self.release(identity, handle).map(|()| 0),
         };
         let number = match result {
             Ok(number) => number,
@@ -272,6 +273,7 @@ impl<'a> SoundBox<'a> {
             handle,
             first: self.record.escrow_bytes,
             length,
+            mark: 0,
         };
         self.escrow_values[bytes..][..value.len()].copy_from_slice(value);
         self.record.escrow_rows += 1;
@@ -291,7 +293,8 @@ impl<'a> SoundBox<'a> {
         let place = self.running()?;
         non_zero(identity)?;
         let recipient = self.record.identities[place];
-        let row = *self.escrow_row(handle, identity, recipient).ok_or(Refusal::NoSuchRow)?;
+        let index = self.unspent(handle, identity, recipient).ok_or(Refusal::NoSuchRow)?;
+        let row = self.escrow[index];
         let part = part(offset, usize::from(row.length), HEAP_SIZE)?;
         let value = row.value(self.escrow_values);
         heap_of_mut(self.heaps, place)[part].copy_from_slice(value);
@@ -374,20 +377,51 @@ impl<'a> SoundBox<'a> {
         recipient: Identity,
     ) -> Result<&[u8], Refusal> {
         non_zero(source)?;
-        let row = self.escrow_row(handle, source, recipient).ok_or(Refusal::NoSuchLink)?;
-        Ok(row.value(self.escrow_values))
+        let index = self.unspent(handle, source, recipient).ok_or(Refusal::NoSuchLink)?;
+        Ok(self.escrow[index].value(self.escrow_values))
     }
 
-    /// The escrow row with all three, if there is one.
-    fn escrow_row(
-        &self,
-        handle: Handle,
-        source: Identity,
-        recipient: Identity,
-    ) -> Option<&EscrowRow> {
-        self.escrow[..usize::from(self.record.escrow_rows)]
-            .iter()
-            .find(|row| row.handle == handle && row.source == source && row.recipient == recipient)
+    /// 16: the running recipient gives up the value with (handle, identity as source,
+    /// running identity as recipient). Its row stays, spent, and later values close up.
+    pub fn release(&mut self, identity: Identity, handle: Handle) -> Result<(), Refusal> {
+        self.profile.has_escrow()?;
+        let place = self.running()?;
+        non_zero(identity)?;
+        let recipient = self.record.identities[place];
+        let index = self.unspent(handle, identity, recipient).ok_or(Refusal::NoSuchRow)?;
+        let EscrowRow { first, length, .. } = self.escrow[index];
+        self.escrow[index].length = 0;
+        self.escrow[index].mark = SPENT;
+        self.close_up(index, first, length);
+        Ok(())
+    }
+
+    /// Moves the values of the rows behind `index` down over the `length` bytes from
+    /// `first` on. The bytes freed at the end become zero.
+    ///
+    /// Open: document 02 doesn't say where a spent row begins. Its first byte stays, so
+    /// that each row still begins where the one before ended.
+    fn close_up(&mut self, index: usize, first: u16, length: u16) {
+        let used = usize::from(self.record.escrow_rows);
+        for row in &mut self.escrow[index + 1..used] {
+            row.first -= length;
+        }
+        let bytes = usize::from(self.record.escrow_bytes);
+        let (first, count) = (usize::from(first), usize::from(length));
+        self.escrow_values.copy_within(first + count..bytes, first);
+        self.escrow_values[bytes - count..bytes].fill(0);
+        self.record.escrow_bytes -= length;
+    }
+
+    /// Where the unspent escrow row with all three stands, if there is one.
+    fn unspent(&self, handle: Handle, source: Identity, recipient: Identity) -> Option<usize> {
+        let used = &self.escrow[..usize::from(self.record.escrow_rows)];
+        used.iter().position(|row| {
+            !row.is_spent()
+                && row.handle == handle
+                && row.source == source
+                && row.recipient == recipient
+        })
     }
 
     /// The running place, or refusal 4.

@@ -1,5 +1,5 @@
-//! The box of document 01, amended by requests P1 to P7 of document 02: places with
-//! heaps, shared memory, a log and an escrow, worked by thirteen calls, as the full
+//! The box of document 01, amended by requests P1 to P8 of document 02: places with
+//! heaps, shared memory, a log and an escrow, worked by fourteen calls, as the full
 //! box or as the level-one paper (P5), and the tank desk over it (P6). P4 altered no
 //! answer, and P7 only the handles of draws that are in use. A second program,
 //! written from those documents alone.
@@ -28,7 +28,7 @@ pub use sheet::{sheet, sheet_level_one, HEADER, SCRIPT_MAX};
 pub use sound::{has_its_sizes, is_sound};
 pub use tables::{
     BoxRecord, EscrowRow, Host, Identity, LogRow, Place, Tables, HEAPS_SIZE, HEAP_SIZE, NONE_RUNS,
-    OUTPUT_SIZE, PLACES, ROWS, SHARED_SIZE, VALUES_SIZE, VALUE_MAX,
+    OUTPUT_SIZE, PLACES, ROWS, SHARED_SIZE, SPENT, VALUES_SIZE, VALUE_MAX,
 };
 pub use tags::{fnv1a, tag_of, Draw, Handle, Tag, DRAW_LIMIT};
 pub use tank::{Action, Correction, Tank, TankAnswer, TankRefusal};

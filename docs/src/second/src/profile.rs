@@ -11,7 +11,8 @@ const LEVEL_ONE_PLACES: usize = 4;
 pub enum Profile {
     /// Nothing more is refused.
     Full,
-    /// Escrow and chains, places above 3, and a second value logged by an identity.
+    /// Escrow, its releases and chains, places above 3, and a second value logged by an
+    /// identity.
     LevelOne,
 }
 

@@ -14,7 +14,7 @@ const LENGTH: u8 = 1 << 4;
 const NUMBER: u8 = 1 << 5;
 const BYTES: u8 = 1 << 6;
 
-/// The thirteen kinds of call. The value of each case is its number. 2 and 3,
+/// The fourteen kinds of call. The value of each case is its number. 2 and 3,
 /// start and yield, are retired: hand over took their place (document 02, P1),
 /// and the numbers stay reserved.
 #[derive(Clone, Copy, Debug, PartialEq, Eq)]
@@ -33,6 +33,7 @@ pub enum Kind {
     Report = 13,
     HandOver = 14,
     Chain = 15,
+    Release = 16,
 }
 
 impl Kind {
@@ -52,7 +53,8 @@ impl Kind {
             13 => Kind::Report,
             14 => Kind::HandOver,
             15 => Kind::Chain,
-            0 | 2..=3 | 16..=255 => return Err(Refusal::UnknownKind),
+            16 => Kind::Release,
+            0 | 2..=3 | 17..=255 => return Err(Refusal::UnknownKind),
         })
     }
 
@@ -74,6 +76,7 @@ impl Kind {
             Kind::Retrieve => 0x2D,
             Kind::HandOver => 0x03,
             Kind::Chain => 0x67,
+            Kind::Release => 0x25,
         }
     }
 }
@@ -105,6 +108,7 @@ pub enum Call<'a> {
     Report,
     HandOver { place: Place },
     Chain { first: Link, bytes: &'a [u8] },
+    Release { identity: Identity, handle: Handle },
 }
 
 impl<'a> Call<'a> {
@@ -125,6 +129,7 @@ impl<'a> Call<'a> {
             Kind::Report => Call::Report,
             Kind::HandOver => Call::HandOver { place },
             Kind::Chain => Call::Chain { first: Link { way: place, identity, number }, bytes },
+            Kind::Release => Call::Release { identity, handle: Handle(number) },
         }
     }
 
@@ -197,6 +202,11 @@ impl<'a> Call<'a> {
                 fields.number = first.number;
                 call_bytes = bytes;
                 Kind::Chain
+            }
+            Call::Release { identity, handle } => {
+                fields.identity = identity;
+                fields.number = handle.0;
+                Kind::Release
             }
         };
         (kind, fields, call_bytes)
@@ -348,7 +358,7 @@ mod tests {
     use super::*;
 
     /// The numbers of the kinds, each with its one legal map.
-    const MAPS: [(u8, u8); 13] = [
+    const MAPS: [(u8, u8); 14] = [
         (1, 0x07),
         (4, 0x01),
         (5, 0x4B),
@@ -362,6 +372,7 @@ mod tests {
         (13, 0x01),
         (14, 0x03),
         (15, 0x67),
+        (16, 0x25),
     ];
 
     fn legal_map(kind: u8) -> Option<u8> {
@@ -369,7 +380,7 @@ mod tests {
     }
 
     /// One call of each kind, every field byte different.
-    fn samples() -> [Call<'static>; 13] {
+    fn samples() -> [Call<'static>; 14] {
         let (place, identity) = (0x11, 0x2928_2726_2524_2322);
         let (offset, length) = (0x3332, 0x4544);
         let number = 0x5958_5756_5554_5352;
@@ -388,11 +399,12 @@ mod tests {
             Call::Report,
             Call::HandOver { place },
             Call::Chain { first: Link { way: place, identity, number }, bytes },
+            Call::Release { identity, handle: Handle(number) },
         ]
     }
 
     /// The samples' records, written out by hand.
-    const RECORDS: [&[u8]; 13] = [
+    const RECORDS: [&[u8]; 14] = [
         b"\x07\x01\x11\x22\x23\x24\x25\x26\x27\x28\x29",
         b"\x01\x04",
         b"\x4B\x05\x11\x32\x33\x03\x00abc",
@@ -406,12 +418,13 @@ mod tests {
         b"\x01\x0D",
         b"\x03\x0E\x11",
         b"\x67\x0F\x11\x22\x23\x24\x25\x26\x27\x28\x29\x52\x53\x54\x55\x56\x57\x58\x59\x03\x00abc",
+        b"\x25\x10\x22\x23\x24\x25\x26\x27\x28\x29\x52\x53\x54\x55\x56\x57\x58\x59",
     ];
 
     /// The widths of the samples' fields, from the document's table: map 1, kind
     /// 1, place 1, identity 8, offset 2, length 2, number 8, the count of the
     /// bytes 2, their contents 3.
-    const WIDTHS: [&[usize]; 13] = [
+    const WIDTHS: [&[usize]; 14] = [
         &[1, 1, 1, 8],
         &[1, 1],
         &[1, 1, 1, 2, 2, 3],
@@ -425,11 +438,12 @@ mod tests {
         &[1, 1],
         &[1, 1, 1],
         &[1, 1, 1, 8, 8, 2, 3],
+        &[1, 1, 8, 8],
     ];
 
     /// What each sample misses when it is cut, from no byte of it on: a word for
     /// a field, a digit for a byte.
-    const MISSING: [&str; 13] = [
+    const MISSING: [&str; 14] = [
         "1 1 1 87654321",
         "1 1",
         "1 1 1 21 21 321",
@@ -443,6 +457,7 @@ mod tests {
         "1 1",
         "1 1 1",
         "1 1 1 87654321 87654321 21 321",
+        "1 1 87654321 87654321",
     ];
 
     fn widths_of(kind: u8) -> Option<&'static [usize]> {

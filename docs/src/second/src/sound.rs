@@ -3,7 +3,7 @@
 
 use crate::tables::{
     BoxRecord, EscrowRow, LogRow, Tables, HEAPS_SIZE, HEAP_SIZE, NONE_RUNS, PLACES, ROWS,
-    SHARED_SIZE, VALUES_SIZE, VALUE_MAX,
+    SHARED_SIZE, SPENT, VALUES_SIZE, VALUE_MAX,
 };
 use crate::tags::tag_of;
 
@@ -80,7 +80,7 @@ fn escrow_is_sound(record: &BoxRecord, rows: &[EscrowRow], values: &[u8]) -> boo
         && lengths_are_in_bounds(spans)
         && used.iter().all(|row| row.source != 0 && row.recipient != 0)
         && handles_differ(used)
-        && used.iter().all(|row| row.handle.length() == row.length)
+        && used.iter().all(mark_fits_length)
         && unused.iter().all(|row| *row == EscrowRow::default())
         && unused_values_are_zero(values, record.escrow_bytes)
 }
@@ -119,6 +119,16 @@ fn tags_are_right(used: &[LogRow], values: &[u8]) -> bool {
 /// Handles differ from row to row.
 fn handles_differ(used: &[EscrowRow]) -> bool {
     used.iter().enumerate().all(|(n, row)| used[..n].iter().all(|other| other.handle != row.handle))
+}
+
+/// The mark is 0 and the handle carries the row's length, or it is 1 and the length
+/// is 0.
+fn mark_fits_length(row: &EscrowRow) -> bool {
+    match row.mark {
+        0 => row.handle.length() == row.length,
+        SPENT => row.length == 0,
+        _ => false,
+    }
 }
 
 /// All unused value bytes are zero.
@@ -309,6 +319,7 @@ mod tests {
                 handle: Handle(32_768 * DRAW_LIMIT + n as u64),
                 first: 32_768 * n as u16,
                 length: 32_768,
+                mark: 0,
             };
         }
         refused(host);
@@ -333,6 +344,7 @@ mod tests {
                 handle: Handle(u64::from(length) * DRAW_LIMIT),
                 first: 0,
                 length,
+                mark: 0,
             };
             assert_eq!(is_sound(&host.lend()), sound);
         }
@@ -398,6 +410,78 @@ mod tests {
         refused(host);
     }
 
+    /// Of all bytes only 0 fits a row that has a value, and only 1 one that was
+    /// released.
+    #[test]
+    fn marks() {
+        for n in 0..2 {
+            for mark in 1..=255 {
+                refused_after(|host| host.escrow[n].mark = mark);
+            }
+        }
+        for mark in 0..=255 {
+            let mut host = busy();
+            make(&mut host, Call::HandOver { place: 5 });
+            let handle = host.escrow[0].handle;
+            make(&mut host, Call::Release { identity: 77, handle });
+            assert_eq!((host.escrow[0].mark, host.escrow[0].length), (1, 0));
+            assert!(is_sound(&host.lend()));
+            host.escrow[0].mark = mark;
+            if mark != 1 {
+                refused(host);
+            }
+        }
+    }
+
+    /// A spent row, written by hand: its handle may carry any length, its own is 0.
+    #[test]
+    fn spent_rows() {
+        let spent = |host: &mut Host| {
+            host.escrow[0].mark = 1;
+            host.escrow[0].length = 0;
+            host.escrow[1].first = 0;
+            host.record.escrow_bytes = 3;
+            host.escrow_values[..7].copy_from_slice(b"bcd\0\0\0\0");
+        };
+        for length in [0, 1, 4, 256, 257, 65_535] {
+            let mut host = busy();
+            spent(&mut host);
+            host.escrow[0].handle = Handle(length * DRAW_LIMIT + 8);
+            assert!(is_sound(&host.lend()));
+            host.escrow[0].mark = 0;
+            if length != 0 {
+                refused(host);
+            }
+        }
+        let refused_spent = |change: fn(&mut Host)| {
+            let mut host = busy();
+            spent(&mut host);
+            assert!(is_sound(&host.lend()));
+            change(&mut host);
+            refused(host);
+        };
+        // The rest of the rule holds of it as of others.
+        refused_spent(|host| host.escrow[0].source = 0);
+        refused_spent(|host| host.escrow[0].recipient = 0);
+        refused_spent(|host| host.escrow[0].first = 1);
+        refused_spent(|host| host.escrow[1].first = 4);
+        refused_spent(|host| host.escrow[0].handle = host.escrow[1].handle);
+        refused_spent(|host| host.escrow[1].handle = host.escrow[0].handle);
+        refused_spent(|host| host.record.escrow_bytes = 7);
+        refused_spent(|host| host.escrow_values[3] = 1);
+        // A length, though the handle carry it and the sums be right.
+        refused_spent(|host| {
+            host.escrow[0].length = 1;
+            host.escrow[0].handle = Handle(DRAW_LIMIT + 9);
+            host.escrow[1].first = 1;
+            host.record.escrow_bytes = 4;
+        });
+        // A row that isn't used.
+        refused_spent(|host| host.escrow[2].mark = 1);
+        refused_spent(|host| host.escrow[63].mark = 1);
+        refused_spent(|host| host.record.escrow_rows = 1);
+    }
+
     #[test]
     fn unused_rows_and_bytes() {
         for n in [2, 63] {
@@ -410,6 +494,9 @@ mod tests {
             refused_after(|host| host.escrow[n].handle = Handle(1));
             refused_after(|host| host.escrow[n].first = 7);
             refused_after(|host| host.escrow[n].length = 1);
+            for mark in 1..=255 {
+                refused_after(|host| host.escrow[n].mark = mark);
+            }
         }
         for byte in [5, 4_095] {
             refused_after(|host| host.log_values[byte] = 1);

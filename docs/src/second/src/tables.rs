@@ -23,6 +23,8 @@ pub const VALUES_SIZE: usize = 4_096;
 /// A value's greatest length.
 pub const VALUE_MAX: usize = 256;
 pub const OUTPUT_SIZE: usize = 1_024;
+/// The mark of a spent escrow row (document 02, P8). That of an unspent one is 0.
+pub const SPENT: u8 = 1;
 
 /// The box record. It goes in and comes back by value.
 #[derive(Clone, Copy, Debug, PartialEq, Eq)]
@@ -85,10 +87,18 @@ pub struct EscrowRow {
     pub handle: Handle,
     /// The value's first byte among the escrow's value bytes.
     pub first: u16,
+    /// 0 in a spent row.
     pub length: u16,
+    /// 0, or [`SPENT`] once the value was released.
+    pub mark: u8,
 }
 
 impl EscrowRow {
+    /// Whether the value was released. The row stays, so its handle stays in use.
+    pub(crate) fn is_spent(&self) -> bool {
+        self.mark == SPENT
+    }
+
     /// The row's value. The row must lie within `values`.
     pub(crate) fn value<'a>(&self, values: &'a [u8]) -> &'a [u8] {
         &values[usize::from(self.first)..][..usize::from(self.length)]

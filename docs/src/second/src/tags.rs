@@ -60,9 +60,9 @@ fn next_draw(draw: Draw) -> Draw {
 }
 
 /// The handle of the first of `draw`, the draw after it, and so on that is in none
-/// of `rows`. The draw must be below 2^48. The sequence runs through all draws
-/// before one comes again, so each candidate passed over is in a row of its own, and
-/// at most as many are as there are rows.
+/// of `rows`, spent ones included. The draw must be below 2^48. The sequence runs
+/// through all draws before one comes again, so each candidate passed over is in a row
+/// of its own, and at most as many are as there are rows.
 pub(crate) fn free_handle(rows: &[EscrowRow], length: u16, mut draw: Draw) -> Handle {
     loop {
         let handle = Handle::new(length, draw);
@@ -143,7 +143,7 @@ mod tests {
     }
 
     fn row(handle: u64) -> EscrowRow {
-        EscrowRow { source: 1, recipient: 1, handle: Handle(handle), first: 0, length: 0 }
+        EscrowRow { source: 1, recipient: 1, handle: Handle(handle), ..EscrowRow::default() }
     }
 
     #[test]
@@ -165,6 +165,18 @@ mod tests {
         assert_eq!(free_handle(&rows, 256, Draw(last)), Handle(256 * DRAW_LIMIT + last));
         let rows = [row(last), row(256 * DRAW_LIMIT + second)];
         assert_eq!(free_handle(&rows, 0, Draw(last)), Handle(second));
+    }
+
+    /// A spent row's handle stays in use.
+    #[test]
+    fn handles_pass_over_spent_ones() {
+        let spent = EscrowRow { mark: 1, ..row(5 * DRAW_LIMIT + 7) };
+        assert_eq!(free_handle(&[spent], 5, Draw(7)), Handle(5 * DRAW_LIMIT + wide_next(7)));
+        let rows = [spent, row(5 * DRAW_LIMIT + wide_next(7))];
+        let third = wide_next(wide_next(7));
+        assert_eq!(free_handle(&rows, 5, Draw(7)), Handle(5 * DRAW_LIMIT + third));
+        // It carries the length that its value had, not 0.
+        assert_eq!(free_handle(&[spent], 0, Draw(7)), Handle(7));
     }
 
     /// Whatever the first draw is, and in whatever order the rows stand.

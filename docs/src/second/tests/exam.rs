@@ -1,7 +1,7 @@
 //! Document 01's exam cases, traps, boundaries and order of refusals, the hand
 //! overs of document 02's P1, the missing bytes of its P2, the chains of its P3, the
-//! level-one paper of its P5 and the draws of its P7, through the library's own
-//! doors.
+//! level-one paper of its P5, the draws of its P7 and the releases of its P8, through
+//! the library's own doors.
 
 use second::*;
 
@@ -25,6 +25,48 @@ fn wanted_handle(host: &Host, record: &[u8]) -> u64 {
     candidates.find(free).expect("at most 64 are passed over")
 }
 
+/// The value of each used escrow row.
+fn escrowed_values(host: &Host) -> Vec<Vec<u8>> {
+    let used = &host.escrow[..usize::from(host.record.escrow_rows)];
+    let value = |row: &EscrowRow| {
+        host.escrow_values[usize::from(row.first)..][..usize::from(row.length)].to_vec()
+    };
+    used.iter().map(value).collect()
+}
+
+/// The code that a whole release should get on this box, and the box that it should
+/// leave: every row and value written anew, but for the value that is given up.
+fn wanted_release(host: &Host, record: &[u8]) -> (u8, Host) {
+    let number = |bytes: &[u8]| bytes.iter().rev().fold(0, |n, &b| 256 * n + u64::from(b));
+    let (source, handle) = (number(&record[2..10]), number(&record[10..18]));
+    let recipient = match host.record.identities.get(usize::from(host.record.running)) {
+        Some(&recipient) => recipient,
+        None => return (4, host.clone()),
+    };
+    if source == 0 {
+        return (9, host.clone());
+    }
+    let wanted = (handle, source, recipient, 0);
+    let fits = |row: &EscrowRow| (row.handle.0, row.source, row.recipient, row.mark) == wanted;
+    let given_up = match host.escrow.iter().position(fits) {
+        Some(given_up) => given_up,
+        None => return (10, host.clone()),
+    };
+    let mut left = host.clone();
+    left.escrow_values.fill(0);
+    left.record.escrow_bytes = 0;
+    for (n, value) in escrowed_values(host).iter().enumerate() {
+        let value = if n == given_up { &[][..] } else { value };
+        let first = left.record.escrow_bytes;
+        let row = &mut left.escrow[n];
+        *row = EscrowRow { first, length: value.len() as u16, ..*row };
+        row.mark |= u8::from(n == given_up);
+        left.escrow_values[usize::from(first)..][..value.len()].copy_from_slice(value);
+        left.record.escrow_bytes += value.len() as u16;
+    }
+    (0, left)
+}
+
 fn record_of(call: &Call) -> Vec<u8> {
     let mut record = vec![0; 66_000];
     let written = write_call(call, &mut record);
@@ -39,7 +81,7 @@ fn level_one_code(host: &Host, record: &[u8], full: u8) -> Option<u8> {
     let is_read = !matches!(full, 1 | 2 | 3 | 15);
     match record.get(1)? {
         _ if !is_read => None,
-        11 | 12 | 15 => Some(21),
+        11 | 12 | 15 | 16 => Some(21),
         1 if (4..=15).contains(&record[2]) => Some(22),
         14 if (4..=15).contains(&record[2]) => Some(22),
         9 if full != 4 && full != 11 && logged_another(host, record) => Some(23),
@@ -62,7 +104,8 @@ fn logged_another(host: &Host, record: &[u8]) -> bool {
 /// A host with its output buffer, which tests at each call what holds of all:
 /// the box stays sound, a refusal and a chain alter nothing, 1 is the only refusal
 /// with a number other than 0 and never has 0, only reads touch the output, a handle
-/// is its draw's first free one. Each call is made under both profiles: the full box
+/// is its draw's first free one, a release leaves what [`wanted_release`] says, used
+/// rows never fall and a spent row stays as it is. Each call is made under both profiles: the full box
 /// never gives 21, 22 or 23, the level-one paper gives them where it should, and else
 /// the two are one.
 struct Bench {
@@ -132,7 +175,23 @@ impl Bench {
         if answer.code == 0 && record[1] == 11 {
             assert_eq!(answer.number, wanted_handle(&host, record));
         }
+        if !matches!(answer.code, 1..=3 | 21) && record[1] == 16 {
+            let (code, left) = wanted_release(&host, record);
+            assert_eq!((answer.code, answer.number), (code, 0));
+            assert!(self.host == left);
+        }
+        self.rows_stay(&host);
         answer
+    }
+
+    /// No row is taken away, and one that was spent before only moves.
+    fn rows_stay(&self, before: &Host) {
+        assert!(self.host.record.escrow_rows >= before.record.escrow_rows);
+        for (row, before) in self.host.escrow.iter().zip(&before.escrow) {
+            if before.mark == 1 {
+                assert_eq!(EscrowRow { first: before.first, ..*row }, *before);
+            }
+        }
     }
 
     fn go(&mut self, call: Call) -> Answer {
@@ -176,6 +235,10 @@ impl Bench {
 
     fn protect(&mut self, identity: u64, offset: u16, length: u16, draw: u64) -> u64 {
         self.accept(Call::Protect { identity, offset, length, draw: Draw(draw) })
+    }
+
+    fn release(&mut self, identity: u64, handle: u64) {
+        assert_eq!(self.accept(Call::Release { identity, handle: Handle(handle) }), 0);
     }
 
     fn check(&mut self, identity: u64, bytes: &[u8], tag: u64) -> u64 {
@@ -750,6 +813,188 @@ fn rings_run_to_20() {
     }
 }
 
+// Releases.
+
+impl Bench {
+    /// Escrows each value for identity 1 by identity 1, in place 0; the handles.
+    fn put_values(&mut self, values: &[&[u8]]) -> Vec<u64> {
+        let put = |value: &&[u8]| {
+            self.put(0, value);
+            self.protect(1, 0, value.len() as u16, 7)
+        };
+        values.iter().map(put).collect()
+    }
+
+    /// What each handle retrieves for who runs, from identity 1; none for 10.
+    fn values_of(&mut self, handles: &[u64]) -> Vec<Option<Vec<u8>>> {
+        let mut values = Vec::new();
+        for &handle in handles {
+            let retrieve = Call::Retrieve { identity: 1, offset: 0, handle: Handle(handle) };
+            let answer = self.go(retrieve);
+            let value = (answer.code == 0).then(|| self.get(0, answer.number as u16));
+            assert!(value.is_some() || answer.code == 10);
+            values.push(value);
+        }
+        values
+    }
+}
+
+/// Each subset of five values is given up in each of two orders, and what is left is
+/// retrieved. One of the values has no bytes.
+#[test]
+fn values_close_up_behind_those_released() {
+    let values: [&[u8]; 5] = [b"first", b"", b"third value", b"4", b"the fifth"];
+    for released in 0..32 {
+        for backwards in [false, true] {
+            let mut bench = Bench::busy();
+            let handles = bench.put_values(&values);
+            let mut order: Vec<usize> = (0..5).filter(|n| released >> n & 1 == 1).collect();
+            if backwards {
+                order.reverse();
+            }
+            for n in order {
+                bench.release(1, handles[n]);
+                bench.refuse(10, Call::Release { identity: 1, handle: Handle(handles[n]) });
+            }
+            let left = |n: usize| (released >> n & 1 == 0).then(|| values[n].to_vec());
+            let wanted: Vec<_> = (0..5).map(left).collect();
+            assert_eq!(bench.values_of(&handles), wanted);
+            let bytes: usize = wanted.iter().flatten().map(Vec::len).sum();
+            assert_eq!(usize::from(bench.host.record.escrow_bytes), bytes);
+            assert_eq!(bench.accept(Call::Report), 3 + 65_536 * 5);
+        }
+    }
+}
+
+/// 4, then 9, then 10.
+#[test]
+fn order_in_release() {
+    let mut bench = Bench::fresh();
+    for identity in [0, 1] {
+        bench.refuse(4, Call::Release { identity, handle: Handle(0) });
+    }
+    let mut bench = Bench::busy();
+    let handle = bench.protect(1, 0, 3, 7);
+    for spent in [false, true] {
+        for number in [0, handle, handle + 1, u64::MAX] {
+            bench.refuse(9, Call::Release { identity: 0, handle: Handle(number) });
+            let wrong = Call::Release { identity: 1, handle: Handle(number) };
+            if number != handle || spent {
+                bench.refuse(10, wrong);
+            }
+            bench.switch(NONE_RUNS);
+            bench.refuse(4, wrong);
+            bench.refuse(4, Call::Release { identity: 0, handle: Handle(number) });
+            bench.switch(0);
+        }
+        if !spent {
+            bench.release(1, handle);
+        }
+    }
+}
+
+/// Handle, source and recipient have to be right, as in a retrieve. The source itself
+/// isn't the recipient.
+#[test]
+fn release_tests_all_three() {
+    let mut bench = Bench::busy();
+    bench.put(0, b"secret");
+    let handle = bench.protect(2, 0, 6, 7);
+    bench.refuse(10, Call::Release { identity: 1, handle: Handle(handle) });
+    bench.refuse(10, Call::Release { identity: 2, handle: Handle(handle) });
+    bench.switch(2);
+    bench.refuse(10, Call::Release { identity: 1, handle: Handle(handle) });
+    bench.switch(1);
+    let wrong = [(2, handle), (3, handle), (1, handle ^ 1), (1, handle - DRAW_LIMIT), (1, 7)];
+    for (identity, handle) in wrong {
+        bench.refuse(10, Call::Release { identity, handle: Handle(handle) });
+    }
+    assert_eq!(bench.values_of(&[handle]), [Some(b"secret".to_vec())]);
+    bench.release(1, handle);
+    assert_eq!(bench.values_of(&[handle]), [None]);
+    // 10 comes before 11, as for a row that never was.
+    bench.refuse(10, Call::Retrieve { identity: 1, offset: 300, handle: Handle(handle) });
+}
+
+/// Two places of one identity are one principal; so are a place left and one taken.
+#[test]
+fn release_by_another_place_of_the_recipient() {
+    for later in [false, true] {
+        let mut bench = Bench::busy();
+        let handle = bench.protect(2, 0, 6, 7);
+        if later {
+            bench.switch(1);
+            bench.accept(Call::Exit);
+        }
+        bench.accept(Call::Create { place: 8, identity: 2 });
+        bench.switch(8);
+        bench.release(1, handle);
+        bench.refuse(10, Call::Retrieve { identity: 1, offset: 0, handle: Handle(handle) });
+    }
+}
+
+/// A draw whose handle is in a spent row is passed over like any other.
+#[test]
+fn a_released_handle_is_never_given_again() {
+    let mut bench = Bench::busy();
+    for n in 0..64 {
+        let handle = bench.protect(1, 0, 5, 7);
+        assert_eq!(handle, 5 * DRAW_LIMIT + after(7, n));
+        bench.release(1, handle);
+        assert_eq!(bench.host.record.escrow_bytes, 0);
+        assert_eq!(bench.accept(Call::Report), 3 + 65_536 * (n as u64 + 1));
+    }
+    // Rows are used up though no byte is.
+    for length in [0, 5, 256] {
+        bench.refuse(14, Call::Protect { identity: 1, offset: 0, length, draw: Draw(7) });
+    }
+}
+
+/// The bytes of a full escrow serve later protects, to the last of them.
+#[test]
+fn released_bytes_serve_later_protects() {
+    let mut bench = Bench::busy();
+    let values: Vec<[u8; 256]> = (0..16).map(|n| [n + 1; 256]).collect();
+    let values: Vec<&[u8]> = values.iter().map(|value| &value[..]).collect();
+    let mut handles = bench.put_values(&values);
+    let protect = |length| Call::Protect { identity: 1, offset: 0, length, draw: Draw(7) };
+    for n in 0..16_u8 {
+        bench.refuse(14, protect(1));
+        bench.release(1, handles[usize::from(n)]);
+        bench.put(0, &[n + 101; 256]);
+        handles.push(bench.accept(protect(255)));
+        bench.refuse(14, protect(2));
+        handles.push(bench.accept(protect(1)));
+    }
+    let left = bench.values_of(&handles);
+    assert!(left[..16].iter().all(Option::is_none));
+    for (n, pair) in (101..).zip(left[16..].chunks(2)) {
+        assert_eq!(pair, [Some(vec![n; 255]), Some(vec![n])]);
+    }
+    assert_eq!((bench.host.record.escrow_rows, bench.host.record.escrow_bytes), (48, 4_096));
+}
+
+/// A chain ends with 18 at a link that was released, first or later.
+#[test]
+fn a_chain_does_not_pass_a_released_link() {
+    for links in 1..=4 {
+        for ways in [&[3][..], &[3, 2], &[2, 3]] {
+            for gone in (0..links).filter(|n| ways[n % ways.len()] == 3) {
+                let mut bench = Bench::busy();
+                let (first, bytes) = bench.put_chain(ways, links);
+                let used = usize::from(bench.host.record.escrow_rows);
+                let escrowed = (0..links).filter(|n| ways[n % ways.len()] == 3);
+                // Links are put from the end on.
+                let row = used - 1 - escrowed.take_while(|&n| n != gone).count();
+                let handle = bench.host.escrow[row].handle.0;
+                bench.chain(0, first, &bytes);
+                bench.release(1, handle);
+                bench.chain(18, first, &bytes);
+            }
+        }
+    }
+}
+
 // Boundaries.
 
 #[test]
@@ -931,6 +1176,7 @@ fn order_when_none_runs() {
     bench.refuse(4, Call::Attest { offset: 300, length: 1 });
     bench.refuse(4, Call::Protect { identity: 0, offset: 300, length: 1, draw: Draw(u64::MAX) });
     bench.refuse(4, Call::Retrieve { identity: 0, offset: 300, handle: Handle(1) });
+    bench.refuse(4, Call::Release { identity: 0, handle: Handle(1) });
     // These work though none runs.
     bench.accept(Call::Create { place: 0, identity: 1 });
     bench.accept(Call::Report);
@@ -997,8 +1243,18 @@ fn order_in_attest_protect_retrieve() {
 #[test]
 fn order_of_15_and_the_record() {
     let unsound = Answer { code: 15, ..Answer::default() };
-    let records: [&[u8]; 8] =
-        [&[], &[2], &[1], &[1, 16], &[3, 2, 0], &[1, 14], &[0x67, 15], &[7, 1, 0, 1]];
+    let records: [&[u8]; 10] = [
+        &[],
+        &[2],
+        &[1],
+        &[1, 17],
+        &[3, 2, 0],
+        &[1, 14],
+        &[0x67, 15],
+        &[0x25, 16],
+        &[0x25, 16, 0, 0, 0, 0, 0, 0, 0, 0, 0, 0, 0, 0, 0, 0, 0, 0],
+        &[7, 1, 0, 1],
+    ];
     for record in records {
         let mut host = Host::fresh();
         assert_eq!(host.call(&mut [0; 1_023], record), unsound);
@@ -1012,13 +1268,14 @@ fn order_of_15_and_the_record() {
 #[test]
 fn order_in_the_record() {
     let mut bench = Bench::fresh();
-    let cases: [(u8, u64, &[u8]); 25] = [
+    let cases: [(u8, u64, &[u8]); 31] = [
         (1, 1, &[]),
         (2, 0, &[0x00]),
         (2, 0, &[0x06, 1]),
         (1, 1, &[0xFF]),
-        (2, 0, &[0xFF, 16]),
-        (2, 0, &[0x67, 16, 2]),
+        (2, 0, &[0xFF, 17]),
+        (2, 0, &[0x25, 17, 2]),
+        (2, 0, &[0x24, 16]),
         (2, 0, &[0xFF, 0]),
         (2, 0, &[0x03, 2]),
         (2, 0, &[0x03, 2, 0]),
@@ -1029,15 +1286,20 @@ fn order_in_the_record() {
         (3, 0, &[0x01, 14]),
         (3, 0, &[0x65, 15]),
         (3, 0, &[0xE7, 15]),
+        (3, 0, &[0x67, 16, 2]),
+        (3, 0, &[0x2D, 16]),
         (3, 0, &[0x81, 4]),
         (1, 1, &[0x07, 1]),
         (1, 8, &[0x07, 1, 16]),
         (1, 1, &[0x03, 14]),
         (1, 1, &[0x67, 15]),
         (1, 2, &[0x67, 15, 2, 1, 0, 0, 0, 0, 0, 0, 0, 0, 0, 0, 0, 0, 0, 0, 0]),
+        (1, 8, &[0x25, 16]),
+        (1, 1, &[0x25, 16, 0, 0, 0, 0, 0, 0, 0, 0, 0, 0, 0, 0, 0, 0, 0]),
         (1, 1, &[0x4B, 5, 16, 0, 0, 1, 0]),
         (4, 0, &[0x4B, 5, 16, 0, 0, 1, 0, 9]),
         (4, 0, &[0x67, 15, 0, 0, 0, 0, 0, 0, 0, 0, 0, 0, 0, 0, 0, 0, 0, 0, 0, 1, 0, 9]),
+        (4, 0, &[0x25, 16, 0, 0, 0, 0, 0, 0, 0, 0, 0, 0, 0, 0, 0, 0, 0, 0]),
     ];
     for (code, number, record) in cases {
         let answer = bench.raw(record);
@@ -1054,7 +1316,7 @@ fn a_cut_record_tells_how_much_is_missing() {
     bench.put(0, b"kept");
     bench.accept(Call::Attest { offset: 0, length: 4 });
     bench.protect(2, 0, 4, 7);
-    let cases: [(u64, &[u8]); 15] = [
+    let cases: [(u64, &[u8]); 17] = [
         (1, b""),
         (1, b"\x65"),
         (1, b"\x4B\x05"),
@@ -1066,6 +1328,8 @@ fn a_cut_record_tells_how_much_is_missing() {
         (1, b"\x19\x09\x00\x00\x04"),
         (8, b"\x2D\x0C\x01\0\0\0\0\0\0\0\x00\x00"),
         (6, b"\x3D\x0B\x02\0\0\0\0\0\0\0\x00\x00\x04\x00\x07\x00"),
+        (4, b"\x25\x10\x01\0\0\0"),
+        (1, b"\x25\x10\x01\0\0\0\0\0\0\0\x07\0\0\0\0\0\x04"),
         (2, b"\x49\x07\x00\x00"),
         (1, b"\x49\x07\x00\x00\xFF"),
         (65_535, b"\x49\x07\x00\x00\xFF\xFF"),
@@ -1090,11 +1354,12 @@ fn an_entry_that_reads_no_record_uses_none() {
 
 /// One record of each kind that escrow is needed for, faults in every field: none
 /// runs, identity 0, beyond the heap, too large a draw, no such row, a bad way.
-fn escrow_calls() -> [Call<'static>; 3] {
+fn escrow_calls() -> [Call<'static>; 4] {
     [
         Call::Protect { identity: 0, offset: 300, length: 1, draw: Draw(u64::MAX) },
         Call::Retrieve { identity: 0, offset: 300, handle: Handle(1) },
         Call::Chain { first: Link { way: 0, identity: 0, number: 0 }, bytes: b"\x01" },
+        Call::Release { identity: 0, handle: Handle(1) },
     ]
 }
 
@@ -1114,6 +1379,7 @@ fn level_one_has_no_escrow() {
                 }
             }
             bench.refuse(21, Call::Retrieve { identity, offset: 0, handle: Handle(0) });
+            bench.refuse(21, Call::Release { identity, handle: Handle(0) });
             for way in [0, 1, 2, 3, 4, 255] {
                 let first = Link { way, identity, number: 0 };
                 bench.chain(21, first, b"");
@@ -1133,12 +1399,21 @@ fn level_one_has_no_escrow_on_a_full_escrow() {
     let (escrowed, _) = bench.put_chain(&[WAY_ESCROWED], 17);
     let protect = Call::Protect { identity: 1, offset: 0, length: 0, draw: Draw(0) };
     let retrieve = Call::Retrieve { identity: 1, offset: 0, handle };
+    let release = Call::Release { identity: 1, handle };
     let follow = Call::Chain { first: logged, bytes: b"\x01\x00\x01" };
     let too_long = Call::Chain { first: escrowed, bytes: b"" };
     for _ in 18..64 {
         bench.accept(protect);
     }
-    let cases = [(14, protect), (0, retrieve), (0, follow), (20, too_long)];
+    let cases = [
+        (14, protect),
+        (0, retrieve),
+        (0, follow),
+        (20, too_long),
+        (0, release),
+        (10, release),
+        (10, retrieve),
+    ];
     for (code, call) in cases {
         bench.profile = Profile::LevelOne;
         bench.refuse(21, call);
@@ -1162,7 +1437,7 @@ fn level_one_reads_the_record_first() {
         }
         let [map, kind] = [record[0], record[1]];
         for (code, map, kind) in
-            [(2, map & !1, kind), (2, map, 16), (2, map, 2), (3, map ^ 8, kind)]
+            [(2, map & !1, kind), (2, map, 17), (2, map, 2), (3, map ^ 8, kind)]
         {
             let faulty = [&[map, kind], &record[2..]].concat();
             assert_eq!(bench.raw(&faulty), Answer { code, ..Answer::default() });
@@ -1542,12 +1817,14 @@ code number used bytes
 fn sheet_stops_after_1_2_and_3() {
     assert_eq!(sheet(&[]), HEADER);
     assert_eq!(sheet_level_one(&[]), HEADER);
-    let cases: [(&[u8], &str); 12] = [
+    let cases: [(&[u8], &str); 14] = [
         (&[1, 13, 1], "0 0 2 -\n1 1 0 -\n"),
         (&[1, 13, 0x19, 8, 0, 0], "0 0 2 -\n1 2 0 -\n"),
         (&[1, 13, 0x49, 7, 0, 0, 0, 1], "0 0 2 -\n1 256 0 -\n"),
         (&[1, 13, 2, 1, 13], "0 0 2 -\n2 0 0 -\n"),
-        (&[1, 13, 1, 16, 1, 13], "0 0 2 -\n2 0 0 -\n"),
+        (&[1, 13, 1, 17, 1, 13], "0 0 2 -\n2 0 0 -\n"),
+        (&[1, 13, 1, 16, 1, 13], "0 0 2 -\n3 0 0 -\n"),
+        (&[1, 13, 0x25, 16, 1, 13], "0 0 2 -\n1 6 0 -\n"),
         (&[1, 13, 1, 15, 1, 13], "0 0 2 -\n3 0 0 -\n"),
         (&[1, 13, 3, 2, 0, 1, 13], "0 0 2 -\n2 0 0 -\n"),
         (&[1, 13, 1, 3, 1, 13], "0 0 2 -\n2 0 0 -\n"),
@@ -1614,10 +1891,10 @@ impl Random {
 
     fn record(&mut self, numbers: &[u64]) -> Vec<u8> {
         // Exits are rare, so that the tables fill.
-        let kind = match self.below(24) {
+        let kind = match self.below(27) {
             0 => [4, 14][self.below(2) as usize],
             1..=3 => 14,
-            n => [1, 5, 5, 5, 6, 7, 8, 9, 9, 9, 9, 10, 15, 11, 11, 11, 12, 12, 15, 13]
+            n => [1, 5, 5, 5, 6, 7, 8, 9, 9, 9, 9, 10, 15, 11, 11, 11, 12, 12, 15, 13, 16, 16, 16]
                 [n as usize - 4],
         };
         let number = match self.below(8) {
@@ -1625,6 +1902,7 @@ impl Random {
             1 => LAST_DRAW + self.below(2),
             _ if numbers.is_empty() => 0,
             _ if kind == 11 => after(self.below(2), self.below(3) as usize),
+            2 | 3 if kind == 16 => numbers[numbers.len() - 1],
             _ => numbers[self.below(numbers.len() as u64) as usize],
         };
         let fields = Fields {
@@ -1645,8 +1923,8 @@ impl Random {
 }
 
 /// Runs a random script, the last record malformed in one way or another, call after
-/// call, and compares its sheet. Counts the codes.
-fn random_script(random: &mut Random, profile: Profile, codes: &mut [usize; 24]) {
+/// call, and compares its sheet. Counts the codes, and gives how many rows are spent.
+fn random_script(random: &mut Random, profile: Profile, codes: &mut [usize; 24]) -> usize {
     let mut bench = Bench { profile, ..Bench::fresh() };
     let mut script = Vec::new();
     let mut expected = String::from("code number used bytes\n");
@@ -1679,15 +1957,17 @@ fn random_script(random: &mut Random, profile: Profile, codes: &mut [usize; 24])
         Profile::Full => assert_eq!(sheet_text(&script), expected),
         Profile::LevelOne => assert_eq!(level_one_text(&script), expected),
     }
+    bench.host.escrow.iter().filter(|row| row.mark == 1).count()
 }
 
 /// The codes given are all but these.
 fn random_scripts_never_give(profile: Profile, never: &[usize]) {
     let mut random = Random(0x9E37_79B9_7F4A_7C15);
     let mut codes = [0; 24];
-    for _ in 0..20 {
-        random_script(&mut random, profile, &mut codes);
-    }
+    let scripts = (0..20).map(|_| random_script(&mut random, profile, &mut codes));
+    let spent: usize = scripts.sum();
+    println!("{spent}");
+    assert_eq!(spent > 100, profile == Profile::Full, "{spent}");
     assert!((0..24).all(|code| (codes[code] > 0) != never.contains(&code)), "{codes:?}");
 }
 

@@ -7,8 +7,8 @@ use second::{tag_of, Call, NONE_RUNS};
 use super::hand_overs::bytes;
 use super::{first_fault, handle};
 use crate::calls::{
-    attest, chain, check, create, hand_over, heap_read, heap_write, protect, retrieve, shared_read,
-    shared_write,
+    attest, chain, check, create, hand_over, heap_read, heap_write, protect, release, retrieve,
+    shared_read, shared_write,
 };
 use crate::case::Case;
 use crate::cuts::Layout;
@@ -33,6 +33,7 @@ pub fn cases() -> Vec<Case> {
         protects(),
         retrieves(),
         chains(),
+        releases(),
         other_kinds(),
         full_log(),
         full_log_of_bytes(),
@@ -117,6 +118,8 @@ fn escrow_while_none_runs() -> Case {
             ("2D 0C 0000000000000000 0001 0700000000000100", "4 0 20 -", "21 0 20 -"),
             ("67 0F 03 0100000000000000 0700000000000100 0000", "4 0 21 -", "21 0 21 -"),
             ("67 0F 00 0000000000000000 0000000000000000 0100 FF", "4 0 22 -", "21 0 22 -"),
+            ("25 10 0100000000000000 0700000000000100", "4 0 18 -", "21 0 18 -"),
+            ("25 10 0000000000000000 0000000000000000", "4 0 18 -", "21 0 18 -"),
             same("01 0D", "0 0 2 -"),
             same("19 09 0000 0100", "4 0 6 -"),
             same("01 04", "4 0 2 -"),
@@ -151,6 +154,12 @@ fn escrow_while_one_runs() -> Case {
             ("67 0F 03 0100000000000000 0800000000000100 0000", "18 0 21 -", "21 0 21 -"),
             ("67 0F 01 0100000000000000 0700000000000100 0000", "19 0 21 -", "21 0 21 -"),
             ("67 0F 03 0100000000000000 0700000000000100 0100 00", "19 0 22 -", "21 0 22 -"),
+            ("25 10 0000000000000000 0700000000000100", "9 0 18 -", "21 0 18 -"),
+            ("25 10 0100000000000000 0800000000000100", "10 0 18 -", "21 0 18 -"),
+            ("25 10 0100000000000000 0700000000000100", "0 0 18 -", "21 0 18 -"),
+            ("25 10 0100000000000000 0700000000000100", "10 0 18 -", "21 0 18 -"),
+            ("2D 0C 0100000000000000 0100 0700000000000100", "10 0 20 -", "21 0 20 -"),
+            ("67 0F 03 0100000000000000 0700000000000100 0000", "18 0 21 -", "21 0 21 -"),
             ("1B 06 00 0000 0200", "0 2 7 0101", "0 2 7 0100"),
             ("01 0D", "0 65793 2 -", "0 257 2 -"),
         ],
@@ -521,6 +530,31 @@ fn chains() -> Case {
     case
 }
 
+/// 21 before 4, 9 and 10, and for a release that the full box accepts.
+fn releases() -> Case {
+    let mut case = three_services("level one, order in release");
+    case.accept(5, heap_write(0, 0, b"value"));
+    case.codes(0, 21, handle(5, 7), protect(2, 0, 5, 7));
+    let mut spent = false;
+    for place in [2, 1] {
+        case.accept(0, hand_over(place));
+        for running in BOTH {
+            for identity in [0, 3, 1] {
+                for number in [handle(5, 8), handle(5, 7), handle(5, 7)] {
+                    let fits = place == 1 && identity == 1 && number == handle(5, 7);
+                    let faults = [(4, !running), (9, identity == 0), (10, !fits || spent)];
+                    let code = first_fault(&faults);
+                    spent |= code == 0;
+                    case.codes(code, 21, 0, release(identity, number));
+                }
+            }
+            case.accept(0, hand_over(NONE_RUNS));
+        }
+    }
+    case.numbers(3 + 65_536, 3, Call::Report);
+    case
+}
+
 /// Kinds to which level one has nothing to say, accepted and refused.
 fn other_kinds() -> Case {
     let mut case = three_services("level one, the other kinds");
@@ -648,7 +682,7 @@ fn wide_identities() -> Case {
 }
 
 /// The kinds to which level one has something to say.
-const KINDS: [u8; 6] = [1, 9, 11, 12, 14, 15];
+const KINDS: [u8; 7] = [1, 9, 11, 12, 14, 15, 16];
 
 /// Those kinds' records cut at every byte, behind records that level one refuses
 /// too: 1 with what is missing, never 21, 22 or 23.
@@ -691,7 +725,7 @@ fn spoilt_records() -> Vec<Case> {
         let mut record = layout.record(0x05, 3);
         record[0] ^= 1;
         add(2, format!("kind {kind} with bit 0 of its map down"), &record);
-        for other in [0, 2, 3, 16, 255] {
+        for other in [0, 2, 3, 17, 255] {
             let mut record = layout.record(0x05, 3);
             record[1] = other;
             add(2, format!("kind {other} with kind {kind}'s map"), &record);

@@ -11,6 +11,7 @@ mod level_one;
 mod limits;
 mod order;
 mod reader;
+mod releases;
 mod services;
 mod tables;
 
@@ -28,6 +29,7 @@ pub fn all() -> Vec<Case> {
         services::cases(),
         hand_overs::cases(),
         chains::cases(),
+        releases::cases(),
         order::cases(),
         reader::cases(),
         limits::cases(),

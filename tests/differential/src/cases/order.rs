@@ -5,8 +5,8 @@ use second::{tag_of, Call, NONE_RUNS};
 
 use super::{first_fault, handle, three_services};
 use crate::calls::{
-    attest, check, create, hand_over, heap_read, heap_write, protect, retrieve, shared_read,
-    shared_write,
+    attest, check, create, hand_over, heap_read, heap_write, protect, release, retrieve,
+    shared_read, shared_write,
 };
 use crate::case::Case;
 
@@ -24,6 +24,7 @@ pub fn cases() -> Vec<Case> {
         protects(false),
         protects(true),
         retrieves(),
+        releases(),
     ]
 }
 
@@ -219,5 +220,31 @@ fn retrieves() -> Case {
         case.accept(0, hand_over(place));
     }
     case.show(&[0; 256], heap_read(2, 0, 256));
+    case
+}
+
+/// 4, 9 and 10, for the recipient, for another and for the source, before the value is
+/// released and after.
+fn releases() -> Case {
+    let mut case = three_services("order in release");
+    case.accept(5, heap_write(0, 0, b"value"));
+    case.accept(handle(5, 7), protect(2, 0, 5, 7));
+    let mut spent = false;
+    for place in [0, 2, 1, 1] {
+        case.accept(0, hand_over(place));
+        for running in BOTH {
+            for identity in [0, 2, 3, 1] {
+                for number in [0, handle(5, 8), handle(4, 7), u64::MAX, handle(5, 7)] {
+                    let fits = place == 1 && identity == 1 && number == handle(5, 7);
+                    let faults = [(4, !running), (9, identity == 0), (10, !fits || spent)];
+                    let code = first_fault(&faults);
+                    spent |= code == 0;
+                    case.answer(code, 0, release(identity, number));
+                }
+            }
+            case.accept(0, hand_over(NONE_RUNS));
+        }
+    }
+    case.accept(3 + 65_536, Call::Report);
     case
 }

@@ -5,8 +5,8 @@ use second::{tag_of, Call};
 
 use super::handle;
 use crate::calls::{
-    attest, chain, check, create, hand_over, heap_read, heap_write, protect, record_of, retrieve,
-    shared_read, shared_write,
+    attest, chain, check, create, hand_over, heap_read, heap_write, protect, record_of, release,
+    retrieve, shared_read, shared_write,
 };
 use crate::case::Case;
 use crate::cuts::{missing, Cut, Layout, Next, LAYOUTS};
@@ -15,7 +15,7 @@ use crate::cuts::{missing, Cut, Layout, Next, LAYOUTS};
 const LONGEST: usize = 65_536;
 
 /// Each kind's one legal map, from kind 0 on. 0, 2 and 3 are no kinds.
-const MAPS: [Option<u8>; 16] = [
+const MAPS: [Option<u8>; 17] = [
     None,
     Some(0x07),
     None,
@@ -32,17 +32,18 @@ const MAPS: [Option<u8>; 16] = [
     Some(0x01),
     Some(0x03),
     Some(0x67),
+    Some(0x25),
 ];
 
 pub fn cases() -> Vec<Case> {
     let mut cases = vec![Case::new("an empty script")];
     cases.extend((0..=255).map(one_byte));
     // The retired kinds with every map too, their old ones among them.
-    for kind in 1..=15 {
+    for kind in 1..=16 {
         cases.extend((0..=255).map(|map| map_and_kind(map, kind)));
     }
-    for kind in (0..=255).filter(|kind| !(1..=15).contains(kind)) {
-        cases.extend([0x01, 0x03, 0x19, 0x67, 0xFF, 0x00].map(|map| map_and_kind(map, kind)));
+    for kind in (0..=255).filter(|kind| !(1..=16).contains(kind)) {
+        cases.extend([0x01, 0x03, 0x19, 0x25, 0x67, 0xFF, 0x00].map(|map| map_and_kind(map, kind)));
     }
     cases.extend(cut_at_every_byte());
     cases.extend(orders());
@@ -104,6 +105,9 @@ fn cut_at_every_byte() -> Vec<Case> {
     whole.accept(tag_of(9, &[1]).0, attest(40, 1));
     whole.accept(1, chain(2, 9, tag_of(9, &[1]).0, b"\x01\x00\x01"));
     whole.refuse(19, chain(3, 9, handle(4, 7), b""));
+    whole.accept(0, release(9, handle(4, 7)));
+    whole.refuse(10, retrieve(9, 0, handle(4, 7)));
+    whole.refuse(18, chain(3, 9, handle(4, 7), b""));
     whole.accept(1 + 256 * 2 + 65_536, Call::Report);
     whole.accept(0, hand_over(16));
     whole.accept(4, create(4, 10));
@@ -165,16 +169,18 @@ fn orders() -> Vec<Case> {
 }
 
 /// Records with 2 or 3. Many of them are cut too.
-const MALFORMED: [(u8, &[u8]); 32] = [
+const MALFORMED: [(u8, &[u8]); 40] = [
     (2, &[0x00]),
     (2, &[0x06, 1]),
     (2, &[0x06, 15]),
     (2, &[0x02, 14, 0]),
     (2, &[0xFE, 5, 0, 0]),
     (2, &[0x66, 15, 2]),
-    (2, &[0xFF, 16]),
-    (2, &[0x01, 16]),
-    (2, &[0x67, 16, 2]),
+    (2, &[0xFF, 17]),
+    (2, &[0x01, 17]),
+    (2, &[0x25, 17, 2]),
+    (2, &[0x67, 17, 2]),
+    (2, &[0x24, 16, 2]),
     (2, &[0xFF, 0]),
     (2, &[0x07, 0]),
     (2, &[0x03, 2]),
@@ -198,11 +204,17 @@ const MALFORMED: [(u8, &[u8]); 32] = [
     (3, &[0x67, 10, 2]),
     (3, &[0xE7, 15, 2]),
     (3, &[0xFF, 15]),
+    (3, &[0x67, 16, 2]),
+    (3, &[0x65, 16]),
+    (3, &[0x2D, 16]),
+    (3, &[0x05, 16]),
+    (3, &[0xA5, 16, 2]),
+    (3, &[0x25, 12]),
 ];
 
 /// Records with 1, and what they miss. Their calls would be refused, or their
 /// fields name more than there is.
-const CUT: [(usize, &[u8]); 19] = [
+const CUT: [(usize, &[u8]); 23] = [
     (1, &[0xFF]),
     (1, &[0x03]),
     (1, &[0x03, 14]),
@@ -222,6 +234,10 @@ const CUT: [(usize, &[u8]); 19] = [
     (8, &[0x67, 15, 0, 0, 0, 0, 0, 0, 0, 0, 0]),
     (2, &[0x67, 15, 2, 0, 0, 0, 0, 0, 0, 0, 0, 9, 9, 9, 9, 9, 9, 9, 9]),
     (1, &[0x67, 15, 2, 0, 0, 0, 0, 0, 0, 0, 0, 9, 9, 9, 9, 9, 9, 9, 9, 2, 0, 1]),
+    (8, &[0x25, 16]),
+    (1, &[0x25, 16, 0, 0, 0, 0, 0, 0, 0]),
+    (8, &[0x25, 16, 0, 0, 0, 0, 0, 0, 0, 0]),
+    (1, &[0x25, 16, 0, 0, 0, 0, 0, 0, 0, 0, 0xFF, 0xFF, 0xFF, 0xFF, 0xFF, 0xFF, 0xFF]),
 ];
 
 /// Good records of a service, which runs on or yields.
@@ -299,7 +315,7 @@ fn followed_by(mut case: Case, cut: &Cut, filler: u8, more: usize) -> Case {
 fn whole(case: &mut Case, record: &[u8]) {
     let (code, number) = match *record {
         [_, 1, ..] => (6, 0),
-        [_, 4 | 5 | 6 | 9 | 11 | 12 | 15, ..] => (4, 0),
+        [_, 4 | 5 | 6 | 9 | 11 | 12 | 15 | 16, ..] => (4, 0),
         [_, 7 | 8, ..] => (11, 0),
         [_, 10, ..] => (0, 0),
         // One service and one log row.

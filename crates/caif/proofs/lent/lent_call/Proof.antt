@@ -353,9 +353,9 @@ module _ {M : Type 1} (𝓤 : URA M) (H : Heap 𝓤) (A : Atoms 𝓤) (W : Given
         (and-then ! (load ! (from ! (stop !)) (inside ! 1 10 refl refl refl (whole !))) (no-more !))))))))))) (λ w.
         use1 W (later (some (λ (r : Change). (Toks ⊛ ‵ (R change .own r (w ∷ []))) ⊛ raw (ensured 𝓤 H A cc.ended (cc.clauses 𝓤 H A mem run) κs (cc-args lr er) tt r)))) (id⊢ 𝓤 _) $
         await ! tt $ pick ! (λ r. split ! $ move ! (1 ∷ []) $
-        use1 W (some (λ (ws : Unit {0} × (Unit {0} × (Unit {0} × (Unit {0} × Left)))). ‵ (lasts cc.ended κs (cc-args lr er) ws) ⊛ (raw (fact 𝓤 (Answered lr er r (ws .1 .1 .1 .1))) ⊛ raw (fact 𝓤 (EditsBy held (r .held) (r .edits)))))) (id⊢ 𝓤 _) $
+        use1 W (some (λ (ws : Unit {0} × (Unit {0} × (Unit {0} × (Unit {0} × Left)))). ‵ (lasts cc.ended κs (cc-args lr er) ws) ⊛ (raw (fact 𝓤 (Answered lr er r (ws .1 .1 .1 .1))) ⊛ raw (fact 𝓤 (EditsBy held (er .rows) (r .held) (r .edits)))))) (id⊢ 𝓤 _) $
         pick ! (λ ws. split ! $ move ! (1 ∷ []) $ split ! $
-        heard ! (Answered lr er r (ws .1 .1 .1 .1)) (λ answered. heard ! (EditsBy held (r .held) (r .edits)) (λ edits. use1 W (given (Lens (ws .1 .1 .1 .1)) (‵ (Fins (ws .1 .1 .1 .1)))) (learns lr er ws) $ learn ! (λ lens.
+        heard ! (Answered lr er r (ws .1 .1 .1 .1)) (λ answered. heard ! (EditsBy held (er .rows) (r .held) (r .edits)) (λ edits. use1 W (given (Lens (ws .1 .1 .1 .1)) (‵ (Fins (ws .1 .1 .1 .1)))) (learns lr er ws) $ learn ! (λ lens.
         -- [the last lists; the other tokens and what the result owns; the locals; …]
         move ! (1 ∷ []) $ split ! $ move ! (1 ∷ 3 ∷ 4 ∷ 5 ∷ 6 ∷ 7 ∷ 0 ∷ 2 ∷ []) $
         lands-as ! (byVal change) (R change) (val change) (tells change) (λ x is. lawful change 𝓤 H A W .typed x _ is .0) r refl (λ isr.

@@ -1,4 +1,4 @@
-use Rattle.calls.proofs.Carried.{created, exited, attested, protected, handed-over}
+use Rattle.calls.proofs.Carried.{created, exited, attested, protected, handed-over, released}
 use Rattle.calls.proofs.Whole.{nothing-put}
 use Rattle.calls.proofs.Ready.{ready}
 use Rattle.calls.proofs.Rest.{rest-alone}
@@ -36,8 +36,14 @@ enum-known-called-4 c = search needs
 hand-over-requires : tie.Need-hand-over-requires
 hand-over-requires c κs = search needs
 
+enum-known-called-5 : tie.Need-enum-known-called-5
+enum-known-called-5 c = search needs
+
+release-requires : tie.Need-release-requires
+release-requires c κs = let s = ready (c .before .before .before .before .before .before .before .before .before .before .pre .0) in (s .runs, s .escrow, s .escrowUsed)
+
 answer-alone-requires : tie.Need-answer-alone-requires
-answer-alone-requires c κs = (c .before .before .before .before .before .before .before .before .before .before .before .before .pre .0, (c .before .before .before .before .before .before .before .before .before .before .before .before .pre .1, rest-alone _ (c .before .before .before .before .before .match .keys6)))
+answer-alone-requires c κs = (c .before .before .before .before .before .before .before .before .before .before .before .before .pre .0, (c .before .before .before .before .before .before .before .before .before .before .before .before .pre .1, rest-alone _ (c .before .before .before .before .before .match .keys7)))
 
 unedited-requires : tie.Need-unedited-requires
 unedited-requires c κs = search needs
@@ -75,6 +81,9 @@ returns-5 c = handed-over (c .before .before .before .before .before .before .be
 same-length-6 : tie.Need-same-length-6
 same-length-6 c = search needs
 
+returns-6 : tie.Need-returns-6
+returns-6 c = released (c .before .before .before .before .before .before .before .before .before .before .before .before .before .pre .0) _ _ _ (c .before .before .before .before .before .called5 .given .1) (c .before .before .release .ensures)
+
 same-length-7 : tie.Need-same-length-7
 same-length-7 c = search needs
 
@@ -87,8 +96,11 @@ same-length-9 c = search needs
 same-length-10 : tie.Need-same-length-10
 same-length-10 c = search needs
 
-returns-6 : tie.Need-returns-6
-returns-6 c = nothing-put (c .unedited .ensures) (c .before .before .before .before .before .before .before .answer-alone .ensures)
+same-length-11 : tie.Need-same-length-11
+same-length-11 c = search needs
+
+returns-7 : tie.Need-returns-7
+returns-7 c = nothing-put (c .unedited .ensures) (c .before .before .before .before .before .before .before .answer-alone .ensures)
 
 pub carry-out-spec : {M : Type 1} → statement M
 carry-out-spec =
@@ -104,6 +116,8 @@ carry-out-spec =
     protect-requires
     enum-known-called-4
     hand-over-requires
+    enum-known-called-5
+    release-requires
     answer-alone-requires
     unedited-requires
     returns
@@ -117,8 +131,10 @@ carry-out-spec =
     returns-4
     returns-5
     same-length-6
+    returns-6
     same-length-7
     same-length-8
     same-length-9
     same-length-10
-    returns-6)
+    same-length-11
+    returns-7)

@@ -58,11 +58,15 @@ returns-13 c = rw (c .match .keys14)
 
 returns-14 : tie.Need-returns-14
 unfolding legalMap mapOf mapIn kindOf among kinds
-returns-14 c = rw (c .match .keys1)
+returns-14 c = rw (c .match .keys15)
 
 returns-15 : tie.Need-returns-15
+unfolding legalMap mapOf mapIn kindOf among kinds
+returns-15 c = rw (c .match .keys1)
+
+returns-16 : tie.Need-returns-16
 unfolding legalMap mapOf mapIn kinds
-returns-15 c = rw (no-kind _ _ (c .match .rest))
+returns-16 c = rw (no-kind _ _ (c .match .rest))
 
 pub legal-map-spec : {M : Type 1} → statement M
 legal-map-spec =
@@ -82,4 +86,5 @@ legal-map-spec =
     returns-12
     returns-13
     returns-14
-    returns-15)
+    returns-15
+    returns-16)

@@ -1,9 +1,9 @@
 //! What the generated scripts come to.
 
-use differential::{lines, Case, Chains, Draws, HandOvers, LevelOne, Missing, Played};
+use differential::{lines, Case, Chains, Draws, HandOvers, LevelOne, Missing, Played, Releases};
 use second::{Profile, ROWS, VALUES_SIZE};
 
-use crate::marker::{Marker, CHAINS, DRAWS};
+use crate::marker::{Marker, CHAINS, DRAWS, RELEASES};
 
 /// More hand overs of each sort than this are in the generated scripts.
 const HAND_OVERS: u64 = 100;
@@ -21,6 +21,7 @@ pub struct Generated {
     hand_overs: HandOvers,
     chains: Chains,
     draws: Draws,
+    releases: Releases,
     level_one: LevelOne,
     missing: Missing,
     /// Hand overs refused and followed by a call of the service that runs.
@@ -35,6 +36,7 @@ impl Generated {
             hand_overs: HandOvers::default(),
             chains: Chains::default(),
             draws: Draws::default(),
+            releases: Releases::default(),
             level_one: LevelOne::default(),
             missing: Missing::default(),
             left_running: 0,
@@ -51,6 +53,7 @@ impl Generated {
             Profile::Full => {
                 self.chains.count(&case.script, &sheet);
                 self.draws.count(&case.script, &sheet);
+                self.releases.count(&case.script, &sheet);
             }
             Profile::LevelOne => {
                 self.level_one.count(&case.script, &sheet);
@@ -59,8 +62,8 @@ impl Generated {
         lines(&case.script, &sheet).for_each(|line| self.missing.add(line.code, line.number));
     }
 
-    /// Tables were filled; hand overs, cut records, and protects and chains or
-    /// level-one calls of each sort came often.
+    /// Tables were filled; hand overs, cut records, and protects, releases and chains
+    /// or level-one calls of each sort came often.
     pub fn coverage(&self, marker: &mut Marker) {
         let Generated { profile, full, hand_overs, missing, left_running, .. } = self;
         marker.tell(format!("in generated scripts, {full}\n{hand_overs}\n{missing}"));
@@ -79,6 +82,10 @@ impl Generated {
                 let often = self.draws.each_above(DRAWS);
                 let otherwise = format!("not all above {DRAWS}");
                 marker.holds("protects of each sort in generated scripts", often, otherwise);
+                marker.tell(&self.releases);
+                let often = self.releases.each_above(RELEASES);
+                let otherwise = format!("not all above {RELEASES}");
+                marker.holds("releases of each sort in generated scripts", often, otherwise);
                 marker.tell(&self.chains);
                 (self.chains.each_above(CHAINS), CHAINS)
             }

@@ -3,7 +3,7 @@
 use std::ffi::OsStr;
 use std::fmt::{Display, Write};
 
-use differential::{lines, Case, Chains, Draws, LevelOne, Missing};
+use differential::{lines, Case, Chains, Draws, LevelOne, Missing, Releases};
 use second::{sheet, sheet_level_one, Profile};
 
 use crate::program::{hex, run, same};
@@ -16,6 +16,10 @@ pub const CHAINS: u64 = 20;
 /// scripts. In the fixed cases one passes over as many rows as there can be.
 pub const DRAWS: u64 = 100;
 const MOST_PASSED_OVER: usize = 63;
+
+/// More releases of each sort than this are in the fixed cases, and in the generated
+/// scripts.
+pub const RELEASES: u64 = 10;
 
 /// More level-one calls of each sort than this are in the fixed cases.
 const LEVEL_ONE: u64 = 10;
@@ -32,7 +36,7 @@ const PRINTED: u64 = 10;
 
 /// The kinds and the refusals that documents 01 and 02 give to each. The
 /// reader's come before a kind is known.
-const FULL: [(usize, &[usize]); 13] = [
+const FULL: [(usize, &[usize]); 14] = [
     (1, &[6, 7, 9]),
     (4, &[4]),
     (5, &[4, 6, 8, 11]),
@@ -46,17 +50,19 @@ const FULL: [(usize, &[usize]); 13] = [
     (13, &[]),
     (14, &[6, 7]),
     (15, &[4, 9, 18, 19, 20]),
+    (16, &[4, 9, 10]),
 ];
 
 /// Those that document 02 gives to them in a level-one paper. What has 21 is never
 /// accepted.
-const LEVEL_ONES: [(usize, &[usize]); 6] = [
+const LEVEL_ONES: [(usize, &[usize]); 7] = [
     (1, &[6, 7, 9, 22]),
     (9, &[4, 11, 13, 23]),
     (11, &[21]),
     (12, &[21]),
     (14, &[6, 7, 22]),
     (15, &[21]),
+    (16, &[21]),
 ];
 
 /// The codes are below this.
@@ -82,10 +88,11 @@ pub struct Marker<'a> {
     /// Those of `MISSED` that were met.
     missed: [bool; MISSED.len()],
     /// Lines with each code above 3, and accepted ones, for each kind byte.
-    kinds: [[u64; CODES]; 16],
-    /// Chains and protects of full papers, and calls of level-one papers.
+    kinds: [[u64; CODES]; 17],
+    /// Chains, protects and releases of full papers, and calls of level-one papers.
     chains: Chains,
     draws: Draws,
+    releases: Releases,
     level_one: LevelOne,
     /// Scripts with an answer that does not follow from what the sheet tells.
     wrong: u64,
@@ -102,9 +109,10 @@ impl<'a> Marker<'a> {
             codes: [0; CODES],
             missing: Missing::default(),
             missed: [false; MISSED.len()],
-            kinds: [[0; CODES]; 16],
+            kinds: [[0; CODES]; 17],
             chains: Chains::default(),
             draws: Draws::default(),
+            releases: Releases::default(),
             level_one: LevelOne::default(),
             wrong: 0,
         }
@@ -144,7 +152,8 @@ impl<'a> Marker<'a> {
         let follows = match self.profile {
             Profile::Full => {
                 let handles = self.draws.count(&case.script, &expected);
-                self.chains.count(&case.script, &expected) && handles
+                let releases = self.releases.count(&case.script, &expected);
+                self.chains.count(&case.script, &expected) && handles && releases
             }
             Profile::LevelOne => self.level_one.count(&case.script, &expected),
         };
@@ -194,7 +203,8 @@ impl<'a> Marker<'a> {
         let right = self.missing.only_with_one();
         self.holds("1 is the only refusal with a number, and never has 0", right, "another number");
         let wrong = self.wrong;
-        let what = "handles, chains' answers and level one's follow from what the sheet tells";
+        let what =
+            "handles, and answers to chains, releases and in level one, follow from the sheet";
         self.holds(what, wrong == 0, format!("{wrong} scripts"));
         self.kind_coverage();
     }
@@ -219,7 +229,7 @@ impl<'a> Marker<'a> {
     }
 
     /// Before anything is generated: cut records missed each number of bytes, and
-    /// there were protects and chains of each sort, or level-one calls.
+    /// there were protects, releases and chains of each sort, or level-one calls.
     pub fn fixed_coverage(&mut self) {
         self.tell(format!("fixed scripts: {}", self.passed + self.failed));
         self.tell(format!("in fixed scripts, {}", self.missing));
@@ -231,6 +241,7 @@ impl<'a> Marker<'a> {
         let (often, least) = match self.profile {
             Profile::Full => {
                 self.fixed_draws();
+                self.fixed_releases();
                 self.tell(format!("in fixed scripts, {}", self.chains));
                 (self.chains.each_above(CHAINS), CHAINS)
             }
@@ -250,6 +261,14 @@ impl<'a> Marker<'a> {
         let otherwise = format!("not all above {DRAWS}");
         self.holds("protects of each sort in fixed scripts", often, otherwise);
         self.holds("the most draws passed over", most == MOST_PASSED_OVER, format!("{most}"));
+    }
+
+    /// Releases and what they bear on came in each way.
+    fn fixed_releases(&mut self) {
+        self.tell(format!("in fixed scripts, {}", self.releases));
+        let often = self.releases.each_above(RELEASES);
+        let otherwise = format!("not all above {RELEASES}");
+        self.holds("releases of each sort in fixed scripts", often, otherwise);
     }
 
     /// Tells how many failures were not told.
