@@ -9,7 +9,8 @@
  *
  * What a host owes, because no program can test it: each pointer leads to as many elements as the count after it
  * says, is not null even where that count is 0, and is aligned for its type; no two lent buffers overlap; nobody
- * else reads or writes them during a call.
+ * else reads or writes them during a call. Nor can a function test its stack: whoever calls one has CAIF_STACK bytes
+ * of it left.
  */
 #ifndef CAIF_H
 #define CAIF_H
@@ -37,6 +38,9 @@ extern "C" {
 #define CAIF_LEVEL_ONE_PLACES 4 /* the places of level-one papers, 0 to 3 */
 #define CAIF_TANKS 8            /* the most tanks of a list */
 #define CAIF_RECORD 65556       /* the longest record: a chain with 65,535 bytes */
+#define CAIF_STACK 24576        /* the stack that any function here needs, in bytes: below the frame of its caller, with the
+                                 * arguments that it gets there, the C library's functions on memory and their first
+                                 * binding included */
 
 /* A draw is below this, 2^48, and a handle is length * 2^48 + draw. Where an escrow row has that handle, a spent one too,
  * the draw after it is tried, and so on until one is free. The draw after d is 25214903917 * d + 11 modulo 2^48, as POSIX

@@ -8,10 +8,13 @@ use differential::calls::{
     attest, chain, check, create, hand_over, heap_read, heap_write, protect, record_of, release,
     retrieve, shared_read, shared_write,
 };
-use differential::{counted, draws, link_value};
+use differential::{counted, draws};
 use interface::Sides;
 use second::{tag_of, Call, Host, Link, DRAW_LIMIT, NONE_RUNS, OUTPUT_SIZE};
 
+use crate::boxes::{
+    after, chained, full, many_identities, mixed_lengths, mixed_value, number, value, DRAW,
+};
 use crate::table;
 
 pub struct Case {
@@ -78,12 +81,14 @@ pub fn keep(number: u64) {
 }
 
 /// Every kind accepted, on a box that holds only what the kind needs and on a
-/// full one; what the full one refuses; the soundness test alone.
+/// full one; what the full one refuses; the soundness test alone; some kinds on full
+/// boxes of other rows.
 pub fn cases() -> Vec<Case> {
     let mut cases = Vec::new();
     add_soundness(&mut cases);
     add_empty(&mut cases);
     add_full(&mut cases);
+    add_others(&mut cases);
     cases
 }
 
@@ -157,73 +162,18 @@ fn add_full(cases: &mut Vec<Case>) {
     add("a chain of sixteen links, alternating", &linked, 0, chain);
 }
 
-/// A full box, place 15 running, whose last eight rows of each table are the links
-/// of a chain, logged and escrowed in turn; its first link, which is the last row
-/// of the log, and the chain bytes.
-fn chained() -> (Host, Link, Vec<u8>) {
-    let mut host = after(full(16, 56), &[hand_over(15)]);
-    let (mut next, mut bytes) = (None, Vec::new());
-    for n in 0..8 {
-        for way in [3, 2] {
-            let head = link_value(next, &[]);
-            let value = link_value(next, &vec![9; 64 - head.len()]);
-            let draw = 1_000 + n;
-            let (put, number) = match way {
-                2 => (attest(0, 64), tag_of(16, &value).0),
-                _ => (protect(16, 0, 64, draw), 64 * DRAW_LIMIT + draw),
-            };
-            host = after(host, &[heap_write(15, 0, &value), put]);
-            if way == 2 {
-                bytes = [counted(&value), bytes].concat();
-            }
-            next = Some(Link { way, identity: 16, number });
-        }
-    }
-    (host, next.expect("there are links"), bytes)
-}
-
-/// The n-th value of 64 bytes that is logged and escrowed. All are of one
-/// beginning, so that comparing two takes some bytes.
-pub fn value(n: u8) -> [u8; 64] {
-    let mut value = [9; 64];
-    value[60] = n;
-    value
-}
-
-/// Every row of a full escrow is made with this draw, so that the draws in the rows
-/// follow one another.
-const DRAW: u64 = 0;
-
-/// Services of identities 1 and on, with heaps that are not zeros, and so many
-/// rows of 64 bytes in log and escrow, all of identity 16. None runs.
-pub fn full(services: u8, rows: u8) -> Host {
-    let mut host = Host::fresh();
-    for place in 0..services {
-        let identity = 16 - (u64::from(services) - 1 - u64::from(place));
-        let calls = [create(place, identity), hand_over(place), heap_write(place, 0, &[3; 256])];
-        host = after(host, &calls);
-    }
-    let place = services - 1;
-    for n in 0..rows {
-        let value = value(n);
-        let calls = [heap_write(place, 0, &value), attest(0, 64), protect(16, 0, 64, DRAW)];
-        host = after(host, &calls);
-    }
-    after(host, &[hand_over(NONE_RUNS)])
-}
-
-/// The number that the call gets on this box, which accepts it.
-fn number(host: &Host, call: &Call) -> u64 {
-    let answer = host.clone().call(&mut [0; OUTPUT_SIZE], &record_of(call));
-    assert_eq!(answer.code, 0, "{call:?}");
-    answer.number
-}
-
-/// The box after these calls, which are accepted.
-pub fn after(mut host: Host, calls: &[Call]) -> Host {
-    for call in calls {
-        let answer = host.call(&mut [0; OUTPUT_SIZE], &record_of(call));
-        assert_eq!(answer.code, 0, "{call:?}");
-    }
-    host
+/// Full boxes with rows of many identities, and with rows of many lengths.
+fn add_others(cases: &mut Vec<Case>) {
+    let mut add = |box_name: &str, name: &str, host: &Host, call: Call| {
+        cases.push(Case::new(box_name, name, host, 0, record_of(&call)));
+    };
+    let (many, name) = (many_identities(64), "full box of many identities");
+    let last = value(63);
+    add(name, "report", &many, Call::Report);
+    add(name, "check, the last row", &many, check(1, tag_of(1, &last).0, &last));
+    let (mixed, name) = (mixed_lengths(), "full box of mixed lengths");
+    let last = mixed_value(63);
+    add(name, "report", &mixed, Call::Report);
+    add(name, "check, the last row", &mixed, check(16, tag_of(16, &last).0, &last));
+    add(name, "attest, logged already", &mixed, attest(0, last.len() as u16));
 }

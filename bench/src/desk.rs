@@ -8,7 +8,8 @@ use differential::calls::{attest, create, hand_over, heap_write, protect};
 use interface::{tank_of, Sides, Tank, TankAnswer};
 use second::{tag_of, Host, OUTPUT_SIZE};
 
-use crate::calls::{after, full, keep};
+use crate::boxes::{after, full};
+use crate::calls::keep;
 use crate::table;
 
 /// The correction that is logged, as two bytes.

@@ -5,13 +5,13 @@ use std::io::{self, ErrorKind};
 use std::time::{Duration, Instant};
 
 use differential::calls::{
-    attest, check, create, hand_over, heap_read, heap_write, protect, record_of, shared_read,
-    shared_write,
+    attest, check, create, hand_over, heap_read, heap_write, record_of, shared_read, shared_write,
 };
 use interface::{Profile, Sides};
 use second::{tag_of, Call, Host, NONE_RUNS, OUTPUT_SIZE};
 
-use crate::calls::{after, keep, value};
+use crate::boxes::{after, many_identities, value};
+use crate::calls::keep;
 use crate::table;
 
 pub struct Case {
@@ -115,9 +115,9 @@ fn add_empty(cases: &mut Vec<Case>) {
 }
 
 fn add_full(cases: &mut Vec<Case>) {
-    let stopped = full(64);
+    let stopped = many_identities(64);
     let running = after(stopped.clone(), &[hand_over(0)]);
-    let one_left = after(full(63), &[hand_over(0)]);
+    let one_left = after(many_identities(63), &[hand_over(0)]);
     let one_less = after(running.clone(), &[hand_over(3), Call::Exit]);
     let other = after(stopped.clone(), &[hand_over(3), heap_write(3, 0, &[1; 64])]);
     let bytes = [5; 1_024];
@@ -139,27 +139,4 @@ fn add_full(cases: &mut Vec<Case>) {
     add("hand over, none runs", &stopped, 0, hand_over(0));
     add("hand over to another place", &running, 0, hand_over(3));
     add("hand over to 16", &running, 0, hand_over(NONE_RUNS));
-}
-
-/// 16 services, of identities 1 and on but 20 in place 3, with heaps that are not
-/// zeros; 64 rows of 64 bytes in the escrow, and so many in the log, of identities
-/// 2, 3 and 5 to 16 in turn. The 64th of the log is identity 1's. None runs.
-fn full(rows: u8) -> Host {
-    let mut host = Host::fresh();
-    for place in 0..16 {
-        let identity = if place == 3 { 20 } else { u64::from(place) + 1 };
-        let calls = [create(place, identity), hand_over(place), heap_write(place, 0, &[3; 256])];
-        host = after(host, &calls);
-    }
-    let loggers: Vec<u8> = (1..16).filter(|&place| place != 3).collect();
-    for n in 0..rows {
-        let place = if n == 63 { 0 } else { loggers[usize::from(n) % loggers.len()] };
-        let bytes = value(n);
-        host = after(host, &[hand_over(place), heap_write(place, 0, &bytes), attest(0, 64)]);
-    }
-    host = after(host, &[hand_over(0), heap_write(0, 0, &value(63))]);
-    for n in 0..64 {
-        host = after(host, &[protect(16, 0, 64, n)]);
-    }
-    after(host, &[hand_over(NONE_RUNS)])
 }

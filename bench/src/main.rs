@@ -9,6 +9,7 @@
 
 #![forbid(unsafe_code)]
 
+mod boxes;
 mod calls;
 mod desk;
 mod level_one;

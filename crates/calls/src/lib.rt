@@ -20,12 +20,17 @@ use state::EscrowTable;
 use state::LogTable;
 use state::refuse;
 
-// The change of a call whose record has so many bytes.
+// The change of a call whose record has so many bytes. The first identity is stored over itself: the compiler then sees the
+// record in parts that it moves without a call of memcpy (docs/DECISIONS.md).
 fn with_used(change: Change, used: usize) -> Change
     ensures { λ r. ⌜ r ≡ withUsed change used ⌝ }
 {
+    let old = change.held;
+    let mut held = change.held;
+    held.identities[0] = old.identities[0];
     let mut next = change;
     next.answer.used = used;
+    next.held = held;
     next
 }
 

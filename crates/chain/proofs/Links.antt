@@ -1,13 +1,13 @@
 -- The outcomes of a link, as its function meets them: none is left, a refusal, and what a head leads to. Assumes nothing.
 use Prim.Native.Nat.{ℕ, zero, suc, _+_, _-_, _≤_}
-use mathlib.Core.Path.{_≡_, refl, ap, _∙_}
+use mathlib.Core.Path.{_≡_, refl, sym, ap, subst, _∙_}
 use mathlib.Core.Bool.{Bool, true, false, not, _&&_, _||_}
 use mathlib.Core.List.{List}
 use mathlib.Core.Option.{Option}
 use native.Mathlib.Numerals.{sub-one}
 use native.Mathlib.Nat.{zero-add}
 use native.Mathlib.Omega.{arith}
-use lib.ListN.{length, drop, length-drop}
+use lib.ListN.{length, take, drop, length-drop}
 use lib.Dec.{eqb}
 use borrow.Author.Tests.{eq-eqb, ne-eqb, eqb-false}
 use Rattle.fnv.specs.declared.Tag.{Tag}
@@ -16,14 +16,20 @@ use Rattle.record.specs.Layout.{OrRefusal, gives, refuses}
 use Rattle.ideal.specs.declared.BoxRecord.{BoxRecord}
 use Rattle.ideal.specs.declared.LogRow.{LogRow}
 use Rattle.ideal.specs.declared.EscrowRow.{EscrowRow}
-use Rattle.ideal.specs.State.{Logged, Escrowed}
-use Rattle.ideal.specs.Step.{Link, Head, malformed, ends, leads, headOf, isMalformed, afterHead, linksAfter, nextCut, bytesAfter, linkValue, unvouched, Tests, accept, _then_, firstHolding, follow, linksFrom}
+use Rattle.ideal.specs.State.{Logged, Escrowed, find}
+use Rattle.ideal.specs.Step.{isEscrowed, Link, Head, malformed, ends, leads, headOf, isMalformed, afterHead, linksAfter, nextCut, bytesAfter, linkValue, unvouched, Tests, accept, _then_, firstHolding, follow, linksFrom}
 use Rattle.state.specs.declared.Answer.{Answer}
 use Rattle.state.specs.Answers.{refusedWith, settled, answered}
 use Rattle.chain.specs.declared.Head as code
 use Rattle.chain.specs.declared.Head.the-variants as case
 use Rattle.chain.specs.Meaning.{loggedLink, escrowedLink, headIn, ValueAndRest}
+use Rattle.ideal.specs.Tables.{logTable, escrowTable, entriesOf}
+use Rattle.ideal.specs.Fit.{RowsFit}
+use Rattle.state.specs.Parts.{callerOf, logOf, TableFits}
+use Rattle.retrieval.specs.Narrow.{foundOn}
+use Rattle.chain.specs.Columns.{loggedRow, escrowedRow, rowsFrom, foundIn}
 use Rattle.chain.specs.Narrow.{linkRefusal, vouched, followedFrom, LinkFits, chainFrom, chainRefusal, chainAnswer}
+use Rattle.chain.proofs.Rows.{row-of}
 
 -- the way is none, or the logged value is cut
 abbrev pub strays : Link → List ℕ → Bool
@@ -143,14 +149,43 @@ module _ {log : List Logged} {found : ℕ → Handle → Option Escrowed} {chain
     unfolding onward headIn
     at-escrowed e = rw e at leads-on
 
--- ---- a chain on the box's parts
+-- ---- a chain
+
+-- the next link is given one less to follow
+pub one-less : {cs : List ℕ} {n m : ℕ} {logValues escrowValues chain : List ℕ} {at next left : ℕ}
+    → LinkFits cs n m logValues escrowValues chain at left → (left ≡ 0 → ⊥) → next ≤ length chain
+    → LinkFits cs n m logValues escrowValues chain next (left - 1)
+one-less p f q =
+    record {
+      log-rows = p .log-rows;
+      escrow-rows = p .escrow-rows;
+      log = p .log;
+      escrow = p .escrow;
+      within = q;
+      few = omega arith;
+    }
 
 module _ (b : BoxRecord) (logRows : List LogRow) (escrowRows : List EscrowRow) (logValues escrowValues : List ℕ) where
-  -- the next link is given one less to follow
-  pub one-less : {chain : List ℕ} {at next left : ℕ} → LinkFits b logRows escrowRows logValues escrowValues chain at left
-      → (left ≡ 0 → ⊥) → next ≤ length chain → LinkFits b logRows escrowRows logValues escrowValues chain next (left - 1)
-  one-less p f q =
-      record { runs = p .runs; log = p .log; escrow = p .escrow; within = q; few = omega arith }
+  -- the first is given columns of the used rows
+  module _ (log : TableFits logTable (b .log) logRows logValues) (escrow : TableFits escrowTable (b .escrow) escrowRows escrowValues) (cs : List ℕ)
+      (logged : rowsFrom (loggedRow cs) 0 (b .log .rows) ≡ take (b .log .rows) logRows)
+      (escrowed : rowsFrom (escrowedRow cs) 0 (b .escrow .rows) ≡ take (b .escrow .rows) escrowRows)
+    where
+      pub first-fits : (chain : List ℕ) → LinkFits cs (b .log .rows) (b .escrow .rows) logValues escrowValues chain 0 16
+      unfolding RowsFit
+      first-fits chain =
+          record {
+            log-rows = log .few;
+            escrow-rows = escrow .few;
+            log = λ i h.
+                let e = row-of (loggedRow cs) (logTable .blank) logRows (b .log .rows) i logged h in
+                subst (λ (r : LogRow). r .first + r .length ≤ length logValues) (sym e) (log .fit i h);
+            escrow = λ i h.
+                let e = row-of (escrowedRow cs) (escrowTable .blank) escrowRows (b .escrow .rows) i escrowed h in
+                subst (λ (r : EscrowRow). r .first + r .length ≤ length escrowValues) (sym e) (escrow .fit i h);
+            within = omega arith;
+            few = omega arith;
+          }
 
   module _ (way identity number : ℕ) (bs : List ℕ) where
     abbrev link : Link
@@ -163,9 +198,23 @@ module _ (b : BoxRecord) (logRows : List LogRow) (escrowRows : List EscrowRow) (
     unfolding chainAnswer chainRefusal firstHolding answered
     none-runs e = rw (eq-eqb _ _ e)
 
-    pub one-runs : (b .running ≡ 16 → ⊥) → chainFrom b logRows escrowRows logValues escrowValues 16 link bs ≡ answer
+    one-runs : (b .running ≡ 16 → ⊥)
+        → followedFrom (logOf b logRows logValues) (foundOn b escrowRows escrowValues) 16 link bs ≡ answer
     unfolding chainAnswer chainRefusal followedFrom firstHolding
     one-runs f = rw (ne-eqb _ _ f, zero-add)
+
+    -- by columns of the used rows
+    pub by-columns : (b .running ≡ 16 → ⊥) → (cs : List ℕ)
+        → rowsFrom (loggedRow cs) 0 (b .log .rows) ≡ take (b .log .rows) logRows
+        → rowsFrom (escrowedRow cs) 0 (b .escrow .rows) ≡ take (b .escrow .rows) escrowRows
+        → chainFrom cs (b .log .rows) (b .escrow .rows) (callerOf b) logValues escrowValues 16 link bs ≡ answer
+    by-columns f cs logged escrowed =
+        ap (λ (rows : List LogRow). followedFrom (entriesOf logTable logValues rows) (foundIn cs (b .escrow .rows) (callerOf b) escrowValues) 16 link bs)
+        logged
+        ∙ ap (λ (rows : List EscrowRow).
+        followedFrom (logOf b logRows logValues) (λ source h. find (isEscrowed h source (callerOf b)) (entriesOf escrowTable escrowValues rows)) 16 link bs)
+        escrowed
+        ∙ one-runs f
 
     pub no-way : (b .running ≡ 16 → ⊥) → (way ≡ 2 → ⊥) → (way ≡ 3 → ⊥) → refusedWith 19 ≡ answer
     no-way r f g =

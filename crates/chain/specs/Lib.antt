@@ -1,2 +1,3 @@
 pub mod Meaning
+pub mod Columns
 pub mod Narrow

@@ -1,5 +1,5 @@
 -- What following a chain answers, on the parts of the box that it is given.
-use Prim.Native.Nat.{ℕ, _+_, _-_, _≤_, _<_}
+use Prim.Native.Nat.{ℕ, _+_, _-_, _≤_}
 use mathlib.Core.Bool.{not, _&&_, _||_, cond}
 use mathlib.Core.List.{List}
 use mathlib.Core.Option.{Option}
@@ -12,12 +12,12 @@ use Rattle.ideal.specs.declared.LogRow.{LogRow}
 use Rattle.ideal.specs.declared.EscrowRow.{EscrowRow}
 use Rattle.ideal.specs.State.{Logged, Escrowed}
 use Rattle.ideal.specs.Step.{Link, nextCount, nextCut, nextValue, bytesAfter, linkValue, unvouched, accept, _then_, firstHolding, follow, linksFrom}
-use Rattle.ideal.specs.Tables.{logTable, escrowTable}
 use Rattle.state.specs.declared.Answer.{Answer}
 use Rattle.state.specs.Answers.{settled, answered}
-use Rattle.state.specs.Parts.{TableFits, logOf}
+use Rattle.state.specs.Parts.{logOf}
 use Rattle.retrieval.specs.Narrow.{foundOn}
 use Rattle.chain.specs.Meaning.{ValueAndRest}
+use Rattle.chain.specs.Columns.{logIn, foundIn, LoggedWithin, EscrowedWithin}
 
 -- the next logged value of the chain bytes
 unfoldable pub nextOf : List ℕ → OrRefusal ValueAndRest
@@ -41,10 +41,6 @@ module _ (log : List Logged) (found : ℕ → Handle → Option Escrowed) where
   followedFrom left k bs = answered (firstHolding (follow log found left k bs)) (16 - left + linksFrom log found left k bs)
 
 module _ (b : BoxRecord) (logRows : List LogRow) (escrowRows : List EscrowRow) (logValues escrowValues : List ℕ) where
-  -- the same on the box's parts
-  abbrev pub chainFrom : ℕ → Link → List ℕ → Answer
-  chainFrom left k bs = followedFrom (logOf b logRows logValues) (foundOn b escrowRows escrowValues) left k bs
-
   unfoldable pub chainRefusal : Link → List ℕ → ℕ
   chainRefusal k bs =
       firstHolding
@@ -55,10 +51,17 @@ module _ (b : BoxRecord) (logRows : List LogRow) (escrowRows : List EscrowRow) (
       let k : Link = record { way = way; identity = identity; number = number } in
       answered (chainRefusal k bs) (linksFrom (logOf b logRows logValues) (foundOn b escrowRows escrowValues) 16 k bs)
 
-  -- what a link's function is given: a program runs, the tables fit, the chain bytes are used up to `at`
-  pub record LinkFits (chain : List ℕ) (at left : ℕ) : Type 0 where
-    pub runs : b .running < 16
-    pub log : TableFits logTable (b .log) logRows logValues
-    pub escrow : TableFits escrowTable (b .escrow) escrowRows escrowValues
-    pub within : at ≤ length chain
-    pub few : left ≤ 16
+-- what a link's function is given: columns of n rows of the log and of m rows of the escrow, whose values lie within these
+-- bytes; the chain bytes are used up to `at`
+pub record LinkFits (cs : List ℕ) (n m : ℕ) (logValues escrowValues chain : List ℕ) (at left : ℕ) : Type 0 where
+  pub log-rows : n ≤ 64
+  pub escrow-rows : m ≤ 64
+  pub log : LoggedWithin cs n (length logValues)
+  pub escrow : EscrowedWithin cs m (length escrowValues)
+  pub within : at ≤ length chain
+  pub few : left ≤ 16
+
+-- the answer from a link on, by such columns
+abbrev pub chainFrom : List ℕ → (n m caller : ℕ) → (logValues escrowValues : List ℕ) → ℕ → Link → List ℕ → Answer
+chainFrom cs n m caller logValues escrowValues left k bs =
+    followedFrom (logIn cs n logValues) (foundIn cs m caller escrowValues) left k bs

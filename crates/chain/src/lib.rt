@@ -1,6 +1,8 @@
 // A chain of custody: from link to link, logged or escrowed, to the value that ends it.
+mod columns;
+
 ghost use mathlib.Core.Path.{_≡_};
-ghost use Prim.Native.Nat.{ℕ, _-_, _≤_, _<_};
+ghost use Prim.Native.Nat.{ℕ, _-_, _≤_};
 ghost use mathlib.Core.Bool.{not};
 ghost use mathlib.Core.List.{List};
 ghost use mathlib.Core.Option.{Option};
@@ -11,18 +13,18 @@ ghost use Rattle.ideal.specs.State.{Logged, Escrowed};
 ghost use Rattle.ideal.specs.Step.{headOf, accept, _then_, firstHolding};
 ghost use Rattle.ideal.specs.Tables.{logTable, escrowTable};
 ghost use Rattle.state.specs.Answers.{answered};
-ghost use Rattle.state.specs.Parts.{TableFits, logOf};
-ghost use Rattle.retrieval.specs.Narrow.{foundOn};
+ghost use Rattle.state.specs.Parts.{TableFits};
 ghost use Rattle.chain.specs.Meaning.{loggedLink, escrowedLink, headIn, inChain, inEscrow, ValueWithin};
+ghost use Rattle.chain.specs.Columns.{logIn, foundIn, LoggedWithin, EscrowedWithin};
 ghost use Rattle.chain.specs.Narrow.{nextOf, vouched, LinkFits, chainFrom, chainAnswer};
+use columns::columns_of;
+use columns::escrowed_at;
+use columns::logged_in;
 use fnv::Tag;
 use ideal::BoxRecord;
-use pairs::in_log;
 use reader::number_at;
 use record::First;
 use record::Handle;
-use retrieval::Found;
-use retrieval::find_row;
 use state::Answer;
 use state::EscrowTable;
 use state::LogTable;
@@ -41,14 +43,6 @@ enum Head {
 enum Value {
     At(usize, usize),
     Refused(u8),
-}
-
-// The box record and the tables that links are looked up in. They go from link to link as one value, so that a call that
-// follows no chain has no copy of them made.
-struct LookUp {
-    held: BoxRecord,
-    log: LogTable,
-    escrow: EscrowTable,
 }
 
 // A way byte, then the next link's identity and its tag or handle: 17 bytes, where the chain doesn't end.
@@ -94,16 +88,16 @@ fn next_value(chain: &[u8], at: usize) -> Value
 
 // A logged link's value stands in the chain bytes, and the check must say yes: a right tag is no proof that it was logged.
 fn logged_value(
-    held: BoxRecord,
-    log: LogTable,
+    columns: &[u64; 640],
+    n: usize,
     log_values: &[u8],
     chain: &[u8],
     at: usize,
     identity: u64,
     tag: Tag,
 ) -> Value
-    requires { ⌜ TableFits logTable (held .log) (log .rows) (now «log_values») × (at ≤ length (now chain)) ⌝ }
-    ensures { λ r. ⌜ ((found : ℕ → Handle → Option Escrowed) → inChain (now (chain .entry)) r ≡ vouched (logOf held (log .rows) (now («log_values» .entry))) found (loggedLink identity tag) (drop at (now (chain .entry)))) ⌝ }
+    requires { ⌜ (n ≤ 64) × LoggedWithin (now columns) n (length (now «log_values»)) × (at ≤ length (now chain)) ⌝ }
+    ensures { λ r. ⌜ ((found : ℕ → Handle → Option Escrowed) → inChain (now (chain .entry)) r ≡ vouched (logIn (now (columns .entry)) n (now («log_values» .entry))) found (loggedLink identity tag) (drop at (now (chain .entry)))) ⌝ }
     ensures { λ r. ⌜ ValueWithin (now (chain .entry)) r ⌝ }
 {
     let Value::At(start, end) = next_value(chain, at) else {
@@ -112,36 +106,39 @@ fn logged_value(
     if identity == 0 {
         return Value::Refused(9);
     }
-    let used = held.log;
-    let rows = log.rows;
-    let n = used.rows as usize;
-    if !in_log(rows, n, log_values, identity, tag, &chain[start..end]) {
+    if !logged_in(columns, n, log_values, identity, tag, &chain[start..end]) {
         return Value::Refused(18);
     }
     Value::At(start, end)
 }
 
-// An escrowed link's value is what its source escrowed for the running program under the handle.
-fn escrowed_value(held: BoxRecord, escrow: EscrowTable, identity: u64, handle: Handle) -> Value
-    requires { ⌜ (held .running < 16) × (held .escrow .rows ≤ 64) ⌝ }
-    ensures { λ r. ⌜ ((values : List ℕ) (log : List Logged) (chain : List ℕ) → inEscrow values chain r ≡ vouched log (foundOn held (escrow .rows) values) (escrowedLink identity handle) chain) ⌝ }
-    ensures { λ r. ⌜ ((values : List ℕ) → TableFits escrowTable (held .escrow) (escrow .rows) values → ValueWithin values r) ⌝ }
+// An escrowed link's value is what its source escrowed for the caller, the running program, under the handle; size is that of
+// the escrow's value bytes.
+fn escrowed_value(
+    columns: &[u64; 640],
+    m: usize,
+    size: usize,
+    caller: u64,
+    identity: u64,
+    handle: Handle,
+) -> Value
+    requires { ⌜ (m ≤ 64) × EscrowedWithin (now columns) m size ⌝ }
+    ensures { λ r. ⌜ ((values : List ℕ) (log : List Logged) (chain : List ℕ) → inEscrow values chain r ≡ vouched log (foundIn (now (columns .entry)) m caller values) (escrowedLink identity handle) chain) ⌝ }
+    ensures { λ r. ⌜ ((values : List ℕ) → length values ≡ size → ValueWithin values r) ⌝ }
 {
     if identity == 0 {
         return Value::Refused(9);
     }
-    let place = held.running as usize;
-    let used = held.escrow;
-    let rows = escrow.rows;
-    let n = used.rows as usize;
-    let recipient = held.identities[place];
-    let Found::At(row) = find_row(rows, n, handle, identity, recipient) else {
-        return Value::Refused(18);
-    };
-    let entry = escrow.rows[row];
-    let start = entry.first as usize;
-    let end = start + entry.length as usize;
-    Value::At(start, end)
+    let mut i: usize = 0;
+    while i < m {
+        if escrowed_at(columns, i, handle, identity, caller) {
+            let start = columns[448 + i] as usize;
+            let end = start + columns[512 + i] as usize;
+            return Value::At(start, end);
+        }
+        i += 1;
+    }
+    Value::Refused(18)
 }
 
 // The answer at the chain's end, where no chain byte may be left over. `left` counts what was still allowed at the last link,
@@ -158,7 +155,10 @@ fn ended(over: usize, left: u64) -> Answer
 
 // A logged link and all that come after it, where left may still be followed.
 fn logged_link(
-    tables: LookUp,
+    columns: &[u64; 640],
+    n: usize,
+    m: usize,
+    caller: u64,
     log_values: &[u8],
     escrow_values: &[u8],
     chain: &[u8],
@@ -167,33 +167,54 @@ fn logged_link(
     tag: Tag,
     left: u64,
 ) -> Answer
-    requires { ⌜ LinkFits (tables .held) (tables .log .rows) (tables .escrow .rows) (now «log_values») (now «escrow_values») (now chain) at left ⌝ }
-    ensures { λ r. ⌜ r ≡ chainFrom (tables .held) (tables .log .rows) (tables .escrow .rows) (now («log_values» .entry)) (now («escrow_values» .entry)) left (loggedLink identity tag) (drop at (now (chain .entry))) ⌝ }
+    requires { ⌜ LinkFits (now columns) n m (now «log_values») (now «escrow_values») (now chain) at left ⌝ }
+    ensures { λ r. ⌜ r ≡ chainFrom (now (columns .entry)) n m caller (now («log_values» .entry)) (now («escrow_values» .entry)) left (loggedLink identity tag) (drop at (now (chain .entry))) ⌝ }
 {
     if left == 0 {
         return refused(20);
     }
     let more = left - 1;
-    let held = tables.held;
-    let log = tables.log;
-    match logged_value(held, log, log_values, chain, at, identity, tag) {
+    match logged_value(columns, n, log_values, chain, at, identity, tag) {
         Value::Refused(code) => refused(code),
         Value::At(start, end) => match head_of(&chain[start..end]) {
             Head::Malformed => refused(19),
             Head::End => ended(chain.len() - end, left),
-            Head::Logged(i, t) => {
-                logged_link(tables, log_values, escrow_values, chain, end, i, t, more)
-            }
-            Head::Escrowed(i, h) => {
-                escrowed_link(tables, log_values, escrow_values, chain, end, i, h, more)
-            }
+            Head::Logged(i, t) => logged_link(
+                columns,
+                n,
+                m,
+                caller,
+                log_values,
+                escrow_values,
+                chain,
+                end,
+                i,
+                t,
+                more,
+            ),
+            Head::Escrowed(i, h) => escrowed_link(
+                columns,
+                n,
+                m,
+                caller,
+                log_values,
+                escrow_values,
+                chain,
+                end,
+                i,
+                h,
+                more,
+            ),
         },
     }
 }
 
 // An escrowed link and all that come after it: no chain byte is its own.
 fn escrowed_link(
-    tables: LookUp,
+    columns: &[u64; 640],
+    n: usize,
+    m: usize,
+    caller: u64,
     log_values: &[u8],
     escrow_values: &[u8],
     chain: &[u8],
@@ -202,26 +223,44 @@ fn escrowed_link(
     handle: Handle,
     left: u64,
 ) -> Answer
-    requires { ⌜ LinkFits (tables .held) (tables .log .rows) (tables .escrow .rows) (now «log_values») (now «escrow_values») (now chain) at left ⌝ }
-    ensures { λ r. ⌜ r ≡ chainFrom (tables .held) (tables .log .rows) (tables .escrow .rows) (now («log_values» .entry)) (now («escrow_values» .entry)) left (escrowedLink identity handle) (drop at (now (chain .entry))) ⌝ }
+    requires { ⌜ LinkFits (now columns) n m (now «log_values») (now «escrow_values») (now chain) at left ⌝ }
+    ensures { λ r. ⌜ r ≡ chainFrom (now (columns .entry)) n m caller (now («log_values» .entry)) (now («escrow_values» .entry)) left (escrowedLink identity handle) (drop at (now (chain .entry))) ⌝ }
 {
     if left == 0 {
         return refused(20);
     }
     let more = left - 1;
-    let held = tables.held;
-    let escrow = tables.escrow;
-    match escrowed_value(held, escrow, identity, handle) {
+    match escrowed_value(columns, m, escrow_values.len(), caller, identity, handle) {
         Value::Refused(code) => refused(code),
         Value::At(start, end) => match head_of(&escrow_values[start..end]) {
             Head::Malformed => refused(19),
             Head::End => ended(chain.len() - at, left),
-            Head::Logged(i, t) => {
-                logged_link(tables, log_values, escrow_values, chain, at, i, t, more)
-            }
-            Head::Escrowed(i, h) => {
-                escrowed_link(tables, log_values, escrow_values, chain, at, i, h, more)
-            }
+            Head::Logged(i, t) => logged_link(
+                columns,
+                n,
+                m,
+                caller,
+                log_values,
+                escrow_values,
+                chain,
+                at,
+                i,
+                t,
+                more,
+            ),
+            Head::Escrowed(i, h) => escrowed_link(
+                columns,
+                n,
+                m,
+                caller,
+                log_values,
+                escrow_values,
+                chain,
+                at,
+                i,
+                h,
+                more,
+            ),
         },
     }
 }
@@ -244,10 +283,21 @@ pub fn follow_chain(
     if held.running == 16 {
         return refused(4);
     }
-    let tables = LookUp { held, log, escrow };
+    let place = held.running as usize;
+    let caller = held.identities[place];
+    let log_used = held.log;
+    let escrow_used = held.escrow;
+    let n = log_used.rows as usize;
+    let m = escrow_used.rows as usize;
+    let log_rows = log.rows;
+    let escrow_rows = escrow.rows;
+    let columns = columns_of(log_rows, n, escrow_rows, m);
     match first {
         First::Logged(tag) => logged_link(
-            tables,
+            &columns,
+            n,
+            m,
+            caller,
             log_values,
             escrow_values,
             bytes,
@@ -257,7 +307,10 @@ pub fn follow_chain(
             16,
         ),
         First::Escrowed(handle) => escrowed_link(
-            tables,
+            &columns,
+            n,
+            m,
+            caller,
             log_values,
             escrow_values,
             bytes,

@@ -28,7 +28,7 @@ pub fn row_is(row: LogRow, values: &[u8], identity: u64, tag: Tag, value: &[u8])
 }
 
 // Whether one of the first n rows is this identity, tag and value.
-pub fn in_log(
+fn search_log(
     rows: [LogRow; 64],
     n: usize,
     values: &[u8],
@@ -48,4 +48,22 @@ pub fn in_log(
         i += 1;
     }
     false
+}
+
+// The same. Where there are no rows, none is copied for a loop over them.
+pub fn in_log(
+    rows: [LogRow; 64],
+    n: usize,
+    values: &[u8],
+    identity: u64,
+    tag: Tag,
+    value: &[u8],
+) -> bool
+    requires { ⌜ (n ≤ 64) × RowsFit logTable rows n (length (now values)) ⌝ }
+    ensures { λ r. ⌜ r ≡ logged identity tag (now (value .entry)) (entriesOf logTable (now (values .entry)) (take n rows)) ⌝ }
+{
+    if n == 0 {
+        return false;
+    }
+    search_log(rows, n, values, identity, tag, value)
 }

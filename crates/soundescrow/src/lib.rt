@@ -8,7 +8,6 @@ ghost use Rattle.ideal.specs.Tables.{escrowTable, entriesOf};
 ghost use Rattle.ideal.specs.Soundness.{sameHandle, rightMark, carriesLength};
 ghost use Rattle.soundness.specs.Tests.{rowSound, bytesAndRows, differBefore, escrowRowRight, escrowSound};
 use buffers::all_zero;
-use handles::handle_in;
 use ideal::EscrowRow;
 use ideal::Used;
 use record::Handle;
@@ -93,17 +92,28 @@ fn rows_sound(rows: [EscrowRow; 64], n: usize, end: usize, values: &[u8]) -> boo
     all == 0
 }
 
-// Whether none of the first n rows has the handle of one before it, whatever the values.
+// Whether none of the first n rows has the handle of one before it, whatever the values: by slots, as in the log.
 fn handles_differ(rows: [EscrowRow; 64], n: usize) -> bool
     requires { ⌜ n ≤ 64 ⌝ }
     ensures { λ r. ⌜ ((values : List ℕ) → r ≡ differBefore sameHandle [] (entriesOf escrowTable values (take n rows))) ⌝ }
 {
+    let mut seen = [0u8; 1024];
     let mut i: usize = 0;
     while i < n {
         let row = rows[i];
-        if handle_in(rows, i, row.handle) {
-            return false;
+        let slot = (row.handle.0 & 1023) as usize;
+        let mut j: usize = 0;
+        if seen[slot] == 0 {
+            j = i;
         }
+        while j < i {
+            let other = rows[j];
+            if other.handle.0 == row.handle.0 {
+                return false;
+            }
+            j += 1;
+        }
+        seen[slot] = 1;
         i += 1;
     }
     true

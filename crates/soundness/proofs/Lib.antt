@@ -1,4 +1,5 @@
 pub mod Rows
 pub mod Differ
+pub mod Seen
 pub mod MapAndHeaps
 pub mod Whole

@@ -1,11 +1,13 @@
 // The records of a script, run on a sound box, and their lines.
 ghost use Prim.Native.Nat.{_+_, _*_, _≤_};
+ghost use mathlib.Core.Path.{_≡_};
 ghost use lib.ListN.{length};
+ghost use Rattle.ideal.specs.Box.{outputAfter};
 ghost use Rattle.ideal.specs.LevelOne.{boxOf};
 ghost use Rattle.ideal.specs.Layouts.{Sound};
 ghost use Rattle.state.specs.Edits.{EditsBy};
 ghost use Rattle.soundness.specs.Parts.{tablesOf};
-ghost use Rattle.sheet.specs.Sheet.{line};
+ghost use Rattle.sheet.specs.Sheet.{line, called};
 ghost use Rattle.sheet.specs.Stored.{AtFront};
 ghost use Rattle.sheet.specs.Turns.{turn};
 ghost use Rattle.turns.specs.Next.{answerIn, turnOf, turnsOf, TurnMade, turns};
@@ -49,7 +51,8 @@ fn write_answer(answer: Answer, output: &[u8], out: &mut [u8]) -> usize
     write_line(answer.code, answer.number, answer.used, &output[..n], out)
 }
 
-// The record at the front of rest on a sound box, and its line at the front of out. A line has at most 2,113 bytes.
+// The record at the front of rest on a sound box, and its line at the front of out. A line has at most 2,113 bytes. Its
+// shown bytes go through output; what that holds beforehand alters no line.
 pub fn next_line(
     profile: Profile,
     held: BoxRecord,
@@ -59,11 +62,12 @@ pub fn next_line(
     shared: &mut [u8],
     log_values: &mut [u8],
     escrow_values: &mut [u8],
+    output: &mut [u8],
     rest: &[u8],
     out: &mut [u8],
 ) -> NextLine
     requires { ⌜
-        Sound (tablesOf held log escrow (now heaps) (now shared) (now «log_values») (now «escrow_values»)) 1024
+        Sound (tablesOf held log escrow (now heaps) (now shared) (now «log_values») (now «escrow_values»)) (length (now output))
         × (2113 ≤ length (now out))
         ⌝ }
     ensures { λ r. ⌜
@@ -75,8 +79,15 @@ pub fn next_line(
         (now (out .entry)) (now (out .exit)) (r .size)
         ⌝ }
     ensures { λ r. ⌜ EditsBy held (escrow .rows) (r .held) (r .edits) ⌝ }
+    ensures { λ r. ⌜
+        now (output .exit)
+        ≡ outputAfter
+        (called (boxOf profile)
+        (tablesOf held log escrow (now (heaps .entry)) (now (shared .entry)) (now («log_values» .entry)) (now («escrow_values» .entry)))
+        (now (rest .entry)) .answer)
+        (now (output .entry))
+        ⌝ }
 {
-    let mut output = [0u8; 1024];
     let change = calls::call_sound(
         profile,
         held,
@@ -86,11 +97,11 @@ pub fn next_line(
         shared,
         log_values,
         escrow_values,
-        &mut output,
+        output,
         rest,
     );
     let answer = change.answer;
-    let size = write_answer(answer, &output, out);
+    let size = write_answer(answer, output, out);
     let held = change.held;
     let edits = change.edits;
     NextLine {
@@ -129,6 +140,8 @@ pub fn next_lines(
         (now (out .entry)) (now (out .exit)) (r .size)
         ⌝ }
 {
+    // one for all records, since to clear it for each takes time
+    let mut output = [0u8; 1024];
     let mut used: usize = 0;
     let mut size: usize = 0;
     let mut last = false;
@@ -145,6 +158,7 @@ pub fn next_lines(
             shared,
             log_values,
             escrow_values,
+            &mut output,
             &rest[used..],
             &mut out[size..],
         );

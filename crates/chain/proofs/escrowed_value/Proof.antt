@@ -1,104 +1,120 @@
-use borrow.Author.Needs.{needs}
-use Prim.Native.Nat.{_<_}
-use mathlib.Core.Path.{refl}
+use Prim.Native.Nat.{ℕ, _≤_, _-_}
+use mathlib.Core.List.{List}
+use mathlib.Core.Path.{_≡_, refl, sym, _∙_}
 use native.Mathlib.Nat.{add-sub-cancel-left}
 use native.Mathlib.Omega.{arith}
-use Rattle.ideal.specs.Fit.{RowsFit}
-use Rattle.ideal.specs.Step.{absent, valueIn, unvouched, linkValue, bytesAfter}
-use Rattle.retrieval.specs.Search.{entryFound, FoundWithin}
-use Rattle.retrieval.specs.Narrow.{foundOn}
-use Rattle.retrieval.proofs.Steps.{given, not-given}
+use Rattle.ideal.specs.Tables.{escrowTable, entriesOf}
+use Rattle.ideal.specs.Step.{isEscrowed, absent, valueIn, unvouched, linkValue, bytesAfter}
+use Rattle.ideal.specs.State.{find}
+use Rattle.chain.specs.Columns.{escrowedRow, rowsFrom, foundIn}
 use Rattle.chain.specs.Meaning.{escrowedLink, inEscrow, ValueWithin}
+use Rattle.chain.proofs.Rows.{rows-step, rows-end}
 use Rattle.chain.proofs.Links.{nobody, unknown, known}
 use Rattle.chain.proofs.escrowed_value.Statement.{statement}
 use Rattle.chain.proofs.escrowed_value.Tie as tie
 
-returns : tie.Need-returns
+abbrev Inv-loop : tie.InvT-loop
+Inv-loop columns m size caller identity handle i₀ i =
+    (i ≤ m)
+    × ((values : List ℕ)
+    → find (isEscrowed handle identity caller) (entriesOf escrowTable values (rowsFrom (escrowedRow columns) i (m - i)))
+    ≡ foundIn columns m caller values identity handle)
+
+abbrev μ-loop : tie.MeasureT-loop
+μ-loop columns m size caller identity handle i₀ i = m - i
+
+returns : tie.Need-returns Inv-loop μ-loop
 unfolding inEscrow ValueWithin
-returns c =
-    (λ values log chain. nobody log _ _ _ refl (c .if1 .taken), λ values fits. tt)
+returns c = (λ values log chain. nobody log _ _ _ refl (c .if1 .taken), λ values fits. tt)
 
-cast-place : tie.Need-cast-place
-cast-place c = search needs
+loop-holds : tie.Need-loop-holds Inv-loop μ-loop
+loop-holds c =
+    let e : c .before .args .m - 0 ≡ c .before .args .m = omega arith in (omega arith, λ values. rw e)
 
-cast-n : tie.Need-cast-n
-cast-n c = search needs
+escrowed-at-requires : tie.Need-escrowed-at-requires Inv-loop μ-loop
+escrowed-at-requires c κs = omega arith
 
-mul-recipient : tie.Need-mul-recipient
-mul-recipient c = search needs
+add-start : tie.Need-add-start Inv-loop μ-loop
+add-start c = omega arith
 
-element-copy-out-recipient : tie.Need-element-copy-out-recipient
-element-copy-out-recipient c = search needs
+mul-start : tie.Need-mul-start Inv-loop μ-loop
+mul-start c = omega arith
 
-find-row-requires : tie.Need-find-row-requires
-find-row-requires c κs = search needs
+element-copy-out-start : tie.Need-element-copy-out-start Inv-loop μ-loop
+element-copy-out-start c = omega arith
 
-enum-known-row : tie.Need-enum-known-row
-enum-known-row c = search needs
+add-end : tie.Need-add-end Inv-loop μ-loop
+add-end c = omega arith
 
-enum-told : tie.Need-enum-told
-enum-told c = search needs
+mul-end : tie.Need-mul-end Inv-loop μ-loop
+mul-end c = omega arith
 
-returns-2 : tie.Need-returns-2
-unfolding inEscrow ValueWithin unvouched absent entryFound
+element-copy-out-end : tie.Need-element-copy-out-end Inv-loop μ-loop
+element-copy-out-end c = omega arith
+
+add-end-2 : tie.Need-add-end-2 Inv-loop μ-loop
+add-end-2 c =
+    omega (arith, c .before .before .before .before .before .before .before .pre .1 (c .before .before .before .before .before .loop .i) (c .before .before .before .before .loop-test .taken))
+
+returns-2 : tie.Need-returns-2 Inv-loop μ-loop
+unfolding inEscrow ValueWithin unvouched absent valueIn linkValue bytesAfter find entriesOf
 returns-2 c =
-    let f = c .before .before .before .before .before .before .before .if1 .left in (
+    let x = c .before .before .before .before .before .before .before .args in
+    let l = c .before .before .before .before .before .loop in (
       λ values log chain.
-          let none-found = not-given (rw (c .enum-told .given .1) at (c .before .before .find-row .ensures .1 .0 values)) in
-          unknown log _ _ _ refl f (rw (← none-found)),
-      λ values fits. tt,
+          let t = sym (c .before .before .before .escrowed-at .ensures values) ∙ c .before .before .if2 .taken in
+          let one = rw (rows-step (escrowedRow (x .columns .now)) (l .i) (x .m) (c .before .before .before .before .loop-test .taken), t) at (l .inv .1 values) in
+          let is = known log (foundIn (x .columns .now) (x .m) (x .caller) values) (escrowedLink (x .identity) (x .handle)) chain refl (c .before .before .before .before .before .before .if1 .left) (rw (← one)) in
+          rw add-sub-cancel-left (rw (← one) at is),
+      λ values fits. (omega arith, rw fits (c .before .before .before .before .before .before .before .pre .1 (l .i) (c .before .before .before .before .loop-test .taken))),
     )
 
--- the row found is a used one
-among : (k : tie.After-known-told)
-    → k .before .row .given .0 .0 < k .before .before .before .before .before .before .before .before .before .args .t1 .escrow .rows
-unfolding FoundWithin
-among k = rw (k .before .row .given .1) at (k .before .before .before .find-row .ensures .0)
+add-i : tie.Need-add-i Inv-loop μ-loop
+add-i c = omega arith
 
-mul-entry : tie.Need-mul-entry
-mul-entry c = omega (arith, among c)
+loop-less : tie.Need-loop-less Inv-loop μ-loop
+loop-less c = omega arith
 
-element-copy-out-entry : tie.Need-element-copy-out-entry
-element-copy-out-entry c = omega (arith, among c)
+loop-again : tie.Need-loop-again Inv-loop μ-loop
+unfolding find entriesOf
+loop-again c =
+    let x = c .before .before .before .before .before .args in
+    let l = c .before .before .before .loop in (
+      omega arith,
+      λ values.
+          let t = sym (c .before .escrowed-at .ensures values) ∙ c .if2 .left in
+          rw (rows-step (escrowedRow (x .columns .now)) (l .i) (x .m) (c .before .before .loop-test .taken), t) at (l .inv .1 values),
+    )
 
-cast-start : tie.Need-cast-start
-cast-start c = search needs
-
-cast-end : tie.Need-cast-end
-cast-end c = search needs
-
-add-end : tie.Need-add-end
-add-end c = search needs
-
-returns-3 : tie.Need-returns-3
-unfolding inEscrow ValueWithin unvouched absent valueIn linkValue bytesAfter entryFound RowsFit
+returns-3 : tie.Need-returns-3 Inv-loop μ-loop
+unfolding inEscrow ValueWithin unvouched absent find entriesOf
 returns-3 c =
-    let x = c .before .before .before .before .before .before .before .before .before .before .before .before .args in
-    let f = c .before .before .before .before .before .before .before .before .before .before .before .if1 .left in (
+    let x = c .before .before .before .args in
+    let l = c .before .loop in (
       λ values log chain.
-          let found = foundOn (x .t1) (x .t2 .rows) values in
-          let one = given (rw (c .before .before .before .before .row .given .1) at (c .before .before .before .before .before .before .find-row .ensures .1 .0 values)) in
-          let is = known log found (escrowedLink (x .identity) (x .handle)) chain refl f (rw (← one)) in
-          rw add-sub-cancel-left (rw (← one) at is),
-      λ values fits. (omega arith, fits .fit _ (among (c .before .before .before))),
+          let none-found = rw (rows-end (escrowedRow (x .columns .now)) (l .i) (x .m) (c .loop-test .left)) at (l .inv .1 values) in
+          unknown log _ _ _ refl (c .before .before .if1 .left) (rw (← none-found)),
+      λ values fits. tt,
     )
 
 pub escrowed-value-spec : {M : Type 1} → statement M
 escrowed-value-spec =
     tie.close
     (tie.spec
+    Inv-loop
+    μ-loop
     returns
-    cast-place
-    cast-n
-    mul-recipient
-    element-copy-out-recipient
-    find-row-requires
-    enum-known-row
-    enum-told
-    returns-2
-    mul-entry
-    element-copy-out-entry
-    cast-start
-    cast-end
+    loop-holds
+    escrowed-at-requires
+    add-start
+    mul-start
+    element-copy-out-start
     add-end
+    mul-end
+    element-copy-out-end
+    add-end-2
+    returns-2
+    add-i
+    loop-less
+    loop-again
     returns-3)

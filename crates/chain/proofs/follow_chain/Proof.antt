@@ -1,7 +1,7 @@
-use borrow.Author.Needs.{needs}
 use mathlib.Core.Path.{_∙_}
+use borrow.Author.Needs.{needs}
 use Rattle.record.specs.Meaning.{wayIn, numberIn, ByItsWay}
-use Rattle.chain.proofs.Links.{none-runs, one-runs, no-way}
+use Rattle.chain.proofs.Links.{first-fits, none-runs, by-columns, no-way}
 use Rattle.chain.proofs.follow_chain.Statement.{statement}
 use Rattle.chain.proofs.follow_chain.Tie as tie
 
@@ -11,17 +11,41 @@ refused-requires c κs = search needs
 returns : tie.Need-returns
 returns c = c .refused .ensures ∙ none-runs _ _ _ _ _ _ _ _ _ (c .before .if1 .taken)
 
+cast-place : tie.Need-cast-place
+cast-place c = search needs
+
+mul-caller : tie.Need-mul-caller
+mul-caller c = search needs
+
+element-copy-out-caller : tie.Need-element-copy-out-caller
+element-copy-out-caller c = search needs
+
+cast-n : tie.Need-cast-n
+cast-n c = search needs
+
+cast-m : tie.Need-cast-m
+cast-m c = search needs
+
+columns-of-requires : tie.Need-columns-of-requires
+columns-of-requires c κs = search needs
+
 enum-known-first : tie.Need-enum-known-first
 enum-known-first c = search needs
 
 logged-link-requires : tie.Need-logged-link-requires
-logged-link-requires c κs = search needs
+logged-link-requires c κs =
+    let s = c .before .before .before .before .before .before .before .before .before .before .before .before .before .before .before .before in
+    let made = c .before .before .before .before .columns-of .ensures in
+    first-fits (s .args .t1) (s .args .log .rows) (s .args .escrow .rows) (s .args .log-values .now) (s .args .escrow-values .now) (s .pre .0 .1) (s .pre .0 .2) (c .before .before .before .before .columns-of .result) (made .0) (made .1) (s .args .bytes .now)
 
 enum-known-first-2 : tie.Need-enum-known-first-2
 enum-known-first-2 c = search needs
 
 escrowed-link-requires : tie.Need-escrowed-link-requires
-escrowed-link-requires c κs = search needs
+escrowed-link-requires c κs =
+    let s = c .before .before .before .before .before .before .before .before .before .before .before .before .before .before .before .before in
+    let made = c .before .before .before .before .columns-of .ensures in
+    first-fits (s .args .t1) (s .args .log .rows) (s .args .escrow .rows) (s .args .log-values .now) (s .args .escrow-values .now) (s .pre .0 .1) (s .pre .0 .2) (c .before .before .before .before .columns-of .result) (made .0) (made .1) (s .args .bytes .now)
 
 enum-told : tie.Need-enum-told
 enum-told c = search needs
@@ -32,21 +56,23 @@ refused-requires-2 c κs = search needs
 returns-2 : tie.Need-returns-2
 unfolding wayIn numberIn
 returns-2 c =
-    rw (c .before .before .first .given .1)
-    (c .logged-link .ensures ∙ one-runs _ _ _ _ _ _ _ _ _ (c .before .before .before .before .if1 .left))
+    let made = c .before .before .before .before .before .columns-of .ensures in
+    rw (c .before .before .before .first .given .1)
+    (c .logged-link .ensures ∙ by-columns _ _ _ _ _ _ _ _ _ (c .before .before .before .before .before .before .before .before .before .before .before .before .before .if1 .left) (c .before .before .before .before .before .columns-of .result) (made .0) (made .1))
 
 returns-3 : tie.Need-returns-3
 unfolding wayIn numberIn
 returns-3 c =
-    rw (c .before .before .first2 .given .1)
-    (c .escrowed-link .ensures ∙ one-runs _ _ _ _ _ _ _ _ _ (c .before .before .before .before .if1 .left))
+    let made = c .before .before .before .before .before .columns-of .ensures in
+    rw (c .before .before .before .first2 .given .1)
+    (c .escrowed-link .ensures ∙ by-columns _ _ _ _ _ _ _ _ _ (c .before .before .before .before .before .before .before .before .before .before .before .before .before .if1 .left) (c .before .before .before .before .before .columns-of .result) (made .0) (made .1))
 
 returns-4 : tie.Need-returns-4
 unfolding wayIn numberIn ByItsWay
 returns-4 c =
     let neither = c .before .enum-told .given .1 in
-    let no = rw neither at (c .before .before .before .before .before .before .before .before .pre .1) in
-    rw neither (c .refused2 .ensures ∙ no-way _ _ _ _ _ _ _ _ _ (c .before .before .before .if1 .left) (no .0) (no .1))
+    let no = rw neither at (c .before .before .before .before .before .before .before .before .before .before .before .before .before .before .before .pre .1) in
+    rw neither (c .refused2 .ensures ∙ no-way _ _ _ _ _ _ _ _ _ (c .before .before .before .before .before .before .before .before .before .before .before .if1 .left) (no .0) (no .1))
 
 pub follow-chain-spec : {M : Type 1} → statement M
 follow-chain-spec =
@@ -54,6 +80,12 @@ follow-chain-spec =
     (tie.spec
     refused-requires
     returns
+    cast-place
+    mul-caller
+    element-copy-out-caller
+    cast-n
+    cast-m
+    columns-of-requires
     enum-known-first
     logged-link-requires
     enum-known-first-2

@@ -1,8 +1,8 @@
-use borrow.Author.Needs.{needs}
 use Prim.Native.Nat.{ℕ, _-_, _≤_}
 use mathlib.Core.Path.{_≡_, sym, ap, _∙_}
 use mathlib.Core.List.{List}
 use lib.ListN.{length, take, drop}
+use borrow.Author.Needs.{needs}
 use Rattle.record.specs.Layout.{gives}
 use Rattle.ideal.specs.Step.{unvouched, linkValue, bytesAfter}
 use Rattle.chain.specs.Meaning.{ValueAndRest, inChain, ValueWithin}
@@ -51,20 +51,17 @@ unfolding inChain ValueWithin
 returns-2 c =
     (λ found. nobody _ found _ _ (was-whole _ (next (c .before)) .0) (c .if1 .taken), tt)
 
-cast-n : tie.Need-cast-n
-cast-n c = search needs
+sub-logged-in : tie.Need-sub-logged-in
+sub-logged-in c = within (c .before) .0
 
-sub-in-log : tie.Need-sub-in-log
-sub-in-log c = within (c .before .before .before .before) .0
+part-logged-in-start : tie.Need-part-logged-in-start
+part-logged-in-start c = within (c .before) .0
 
-part-in-log-start : tie.Need-part-in-log-start
-part-in-log-start c = within (c .before .before .before .before) .0
+part-logged-in-end : tie.Need-part-logged-in-end
+part-logged-in-end c = within (c .before) .1
 
-part-in-log-end : tie.Need-part-in-log-end
-part-in-log-end c = within (c .before .before .before .before) .1
-
-in-log-requires : tie.Need-in-log-requires
-in-log-requires c κs = search needs
+logged-in-requires : tie.Need-logged-in-requires
+logged-in-requires c κs = search needs
 
 abbrev value : ValueAndRest → List ℕ
 value v = v .value
@@ -72,19 +69,19 @@ value v = v .value
 returns-3 : tie.Need-returns-3
 unfolding inChain ValueWithin unvouched
 returns-3 c =
-    let w = was-whole _ (next (c .before .before .before .before .before .before .before)) in
-    let f = c .before .before .before .before .before .before .if1 .left in
-    (λ found. unknown _ found _ _ (w .0) f (rw (ap value (w .1), ← c .before .in-log .ensures) (c .if2 .taken)), tt)
+    let w = was-whole _ (next (c .before .before .before .before)) in
+    let f = c .before .before .before .if1 .left in
+    (λ found. unknown _ found _ _ (w .0) f (rw (ap value (w .1), ← c .before .logged-in .ensures) (c .if2 .taken)), tt)
 
 returns-4 : tie.Need-returns-4
 unfolding inChain ValueWithin unvouched linkValue bytesAfter
 returns-4 c =
-    let k = c .before .before .before .before .before .before .before in
+    let k = c .before .before .before .before in
     let w = was-whole _ (next k) in
-    let f = c .before .before .before .before .before .before .if1 .left in (
+    let f = c .before .before .before .if1 .left in (
       λ found.
           ap gives (sym (w .1))
-          ∙ known _ found _ _ (w .0) f (rw (ap value (w .1), ← c .before .in-log .ensures) (c .if2 .left)),
+          ∙ known _ found _ _ (w .0) f (rw (ap value (w .1), ← c .before .logged-in .ensures) (c .if2 .left)),
       within k,
     )
 
@@ -97,10 +94,9 @@ logged-value-spec =
     enum-told
     returns
     returns-2
-    cast-n
-    sub-in-log
-    part-in-log-start
-    part-in-log-end
-    in-log-requires
+    sub-logged-in
+    part-logged-in-start
+    part-logged-in-end
+    logged-in-requires
     returns-3
     returns-4)

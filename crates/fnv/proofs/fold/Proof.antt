@@ -1,24 +1,23 @@
 use borrow.Author.Needs.{needs}
 use native.Mathlib.Omega.{arith}
-use native.Mathlib.Numerals.{add-one}
-use Prim.Native.Nat.{ℕ, _≤_, _<_, _+_, _-_}
-use mathlib.Core.Path.{_≡_, refl, sym, ap, _∙_}
-use mathlib.Core.List.{List, [], _∷_}
-use lib.ListN.{length, getD, take, drop}
-use lib.Seq.{drop-cons, drop-length}
-use Rattle.fnv.specs.Fnv.{fnvFrom, mixed}
+use Prim.Native.Nat.{_≤_, _-_}
+use mathlib.Core.Path.{_≡_, refl}
+use lib.ListN.{length, drop}
+use lib.Seq.{drop-length}
+use Rattle.fnv.specs.Fnv.{fnvFrom}
+use Rattle.fnv.proofs.Append.{fnv-step}
 use Rattle.fnv.proofs.fold.Statement.{statement}
 use Rattle.fnv.proofs.fold.Tie as tie
 
 -- what is left to fold, from x on, gives the whole
 abbrev Inv-loop : tie.InvT-loop
-Inv-loop h s x₀ i₀ x i = (i ≤ length s) × (fnvFrom x (drop i s) ≡ fnvFrom h s)
+Inv-loop h s from x₀ i₀ x i = (i ≤ length s) × (fnvFrom x (drop i s) ≡ fnvFrom h (drop from s))
 
 abbrev μ-loop : tie.MeasureT-loop
-μ-loop h s x₀ i₀ x i = length s - i
+μ-loop h s from x₀ i₀ x i = length s - i
 
 loop-holds : tie.Need-loop-holds Inv-loop μ-loop
-loop-holds c = (omega arith, refl)
+loop-holds c = (search needs, refl)
 
 shared-slice-read-mix : tie.Need-shared-slice-read-mix Inv-loop μ-loop
 shared-slice-read-mix c = search needs
@@ -33,14 +32,10 @@ loop-less : tie.Need-loop-less Inv-loop μ-loop
 loop-less c = omega arith
 
 loop-again : tie.Need-loop-again Inv-loop μ-loop
-unfolding fnvFrom
 loop-again c =
     let s = c .before .before .before .before .before .args .s .now in
-    let i = c .before .before .before .loop .i in
-    let l : i < length s = omega arith in (
-      omega arith,
-      simp (add-one, c .mix .ensures) (rw (drop-cons s i 0 l) at (c .before .before .before .loop .inv .1)),
-    )
+    let l = c .before .before .before .loop in
+    (omega arith, fnv-step (l .x) s (l .i) (omega arith) (c .mix .ensures) (l .inv .1))
 
 returns : tie.Need-returns Inv-loop μ-loop
 unfolding fnvFrom

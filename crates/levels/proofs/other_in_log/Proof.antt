@@ -40,7 +40,7 @@ returns c =
     let l = c .before .before .before .before .loop in
     let q : x .n ≤ length (x .t1) = omega arith in
     let s =
-    search-step (isOther (x .identity) (x .value .now)) (x .values .now) (x .t1) (x .n) (l .i) (c .before .before .before .loop-test .taken) q in
+    search-step logTable (isOther (x .identity) (x .value .now)) (x .values .now) (x .t1) (x .n) (l .i) (c .before .before .before .loop-test .taken) q in
     let t = sym (c .before .row-is-other .ensures) ∙ c .if1 .taken in
     sym (rw t at s) ∙ l .inv .1
 
@@ -56,7 +56,7 @@ loop-again c =
     let l = c .before .before .before .before .loop in
     let q : x .n ≤ length (x .t1) = omega arith in
     let s =
-    search-step (isOther (x .identity) (x .value .now)) (x .values .now) (x .t1) (x .n) (l .i) (c .before .before .before .loop-test .taken) q in
+    search-step logTable (isOther (x .identity) (x .value .now)) (x .values .now) (x .t1) (x .n) (l .i) (c .before .before .before .loop-test .taken) q in
     let t = sym (c .before .row-is-other .ensures) ∙ c .if1 .left in
     (omega arith, sym (rw t at s) ∙ l .inv .1)
 

@@ -1,22 +1,18 @@
-use Rattle.turns.proofs.NextTurn.{shown-fits, turn-called}
 use native.Mathlib.Omega.{arith}
 use borrow.Author.Needs.{needs}
+use Rattle.ideal.proofs.Facts.{output-size}
+use Rattle.turns.proofs.NextTurn.{shown-fits, turn-called, output-called}
 use Rattle.turns.proofs.next_line.Statement.{statement}
 use Rattle.turns.proofs.next_line.Tie as tie
-
-slice-aggregate-call-sound : tie.Need-slice-aggregate-call-sound
-slice-aggregate-call-sound c = search needs
 
 call-sound-requires : tie.Need-call-sound-requires
 call-sound-requires c κs = search needs
 
-slice-aggregate-write-answer : tie.Need-slice-aggregate-write-answer
-slice-aggregate-write-answer c = search needs
-
 write-answer-requires : tie.Need-write-answer-requires
 write-answer-requires c κs =
-    let fits = shown-fits _ _ _ _ _ (c .before .before .before .before .before .before .before .before .before .before .before .before .call-sound .ensures .0) in
-    (fits, omega (arith, fits, c .before .before .before .output2 .given, c .before .before .before .before .before .before .before .before .before .before .before .before .before .before .before .before .before .before .before .before .before .before .before .before .pre .1))
+    let start = c .before .before .before .before .before .before .before .before .before .before .before .before .before .before .before .before .before .before .before .before .before .before .before .before .before .before in
+    let fits = shown-fits _ _ _ _ _ (c .before .before .before .before .before .before .before .before .before .before .before .before .before .call-sound .ensures .0) (start .pre .0) in
+    (fits, omega (arith, fits, c .before .before .before .before .output .given, output-size _ _ (start .pre .0 .sizes), start .pre .1))
 
 is-last-requires : tie.Need-is-last-requires
 is-last-requires c κs = search needs
@@ -36,18 +32,22 @@ same-length-4 c = search needs
 same-length-5 : tie.Need-same-length-5
 same-length-5 c = search needs
 
+same-length-6 : tie.Need-same-length-6
+same-length-6 c = search needs
+
 returns : tie.Need-returns
 returns c =
-    let called = c .before .before .before .before .before .before .before .before .before .before .before .before .before .before .before .before .before .before .call-sound .ensures in
-    (rw (c .is-last .ensures) (turn-called _ _ _ _ _ (called .0) (c .before .before .before .before .before .before .before .before .before .before .before .before .before .before .before .before .before .before .before .before .before .before .before .before .before .before .before .before .before .before .pre .0) (c .before .before .before .before .before .write-answer .ensures)), called .1)
+    let sound = c .before .before .before .before .before .before .before .before .before .before .before .before .before .before .before .before .before .before .before .before .before .before .before .before .before .before .before .before .before .before .before .before .pre .0 in
+    let called = c .before .before .before .before .before .before .before .before .before .before .before .before .before .before .before .before .before .before .before .call-sound .ensures in (
+      rw (c .is-last .ensures) (turn-called _ _ _ _ _ (called .0) sound (c .before .before .before .before .before .write-answer .ensures)),
+      (called .1, output-called _ _ _ _ _ (called .0) sound),
+    )
 
 pub next-line-spec : {M : Type 1} → statement M
 next-line-spec =
     tie.close
     (tie.spec
-    slice-aggregate-call-sound
     call-sound-requires
-    slice-aggregate-write-answer
     write-answer-requires
     is-last-requires
     same-length
@@ -55,4 +55,5 @@ next-line-spec =
     same-length-3
     same-length-4
     same-length-5
+    same-length-6
     returns)
