@@ -1,11 +1,13 @@
-/* The reference box, for hosts in C. Link libcaif.a, which `rt staticlib caif` proves and writes to
- * target/staticlib/ (x86-64). The tank desk, caif_desk and caif_shift, is in libdesk.a, by `rt staticlib desk`; a host
- * links either or both.
+/* The reference box, for hosts in C or C++. Link libcaif.a, which `rt staticlib caif` proves and writes to
+ * target/staticlib/. The tank desk, caif_desk and caif_shift, is in libdesk.a, by `rt staticlib desk`; a host links either
+ * or both. The archives are for the System V ABI of x86-64, little endian. This header asserts that the compiler lays each
+ * struct out as they do, in C11 and C++11 and later; older compilers are not asked.
  *
  * A host holds a box record, which goes in and comes back by value, and the tables and buffers that it lends for
  * each call. Whatever they hold, and however long they are, caif_call and caif_call_level_one return: a buffer that is
  * not of its size, or a box that is not sound, gets code 15, and a refusal alters nothing. caif_desk and caif_shift
- * return too, and alter nothing of the box, accepted or refused.
+ * return too, and alter nothing of the box, accepted or refused: what they only read is const, and may be memory that
+ * cannot be written (which is tested, not proved: a contract speaks of what stands there before and after).
  *
  * What a host owes, because no program can test it: each pointer leads to as many elements as the count after it
  * says, is not null even where that count is 0, and is aligned for its type; no two lent buffers overlap; nobody
@@ -17,6 +19,16 @@
 
 #include <stddef.h>
 #include <stdint.h>
+
+#if defined(__cplusplus) && __cplusplus >= 201103L
+#define CAIF_ASSERT(holds) static_assert(holds, #holds);
+#elif !defined(__cplusplus) && defined(__STDC_VERSION__) && __STDC_VERSION__ >= 201112L
+#define CAIF_ASSERT(holds) _Static_assert(holds, #holds);
+#else
+#define CAIF_ASSERT(holds)
+#endif
+#define CAIF_SIZE(type, size) CAIF_ASSERT(sizeof(struct type) == size)
+#define CAIF_FIELD(type, field, offset) CAIF_ASSERT(offsetof(struct type, field) == offset)
 
 #ifdef __cplusplus
 extern "C" {
@@ -83,7 +95,7 @@ enum caif_way {
  * empty record 1, bit 0 of the map down 2, no kind byte 1, kind 2, map 3, cut field 1; then rising numbers, but for
  * a chain: 4; then link by link 20, 19 by its way or a cut value, 9, 18, 19 by its head; then 19 by bytes left over.
  * caif_call_level_one has three codes more, each at its place: 21 before 4, 22 directly after 6, 23 directly after 11.
- * The desk gives 24, 25 and 26, in this order, and no others.
+ * The desk gives 24, 25 and 26 to a tank, and 15 and 24 to a whole list, in this order, and no others.
  * Code 5, one already runs, is retired with start: no call gives it, and the number stays reserved and gets no other
  * meaning. */
 enum caif_code {
@@ -101,7 +113,8 @@ enum caif_code {
     CAIF_DRAW = 12,          /* draw of 2^48 or more: protect */
     CAIF_LOG_FULL = 13,      /* the pair is not yet logged, and rows or value bytes are lacking: attest */
     CAIF_ESCROW_FULL = 14,   /* rows, of which spent ones stay used, or value bytes are lacking: protect */
-    CAIF_NOT_SOUND = 15,     /* a lent buffer is not of its size, or the box is not sound */
+    CAIF_NOT_SOUND = 15,     /* a lent buffer is not of its size, or the box is not sound; a list: not as many answers as
+                              * tanks */
     CAIF_TOO_LONG = 16,      /* a script of more than 65,536 bytes: only the programs boxrun and levelone give it */
     CAIF_NO_ROOM = 17,       /* the writer's buffer is shorter than the record, or its bytes are over 65,535 */
     CAIF_NO_LINK = 18,       /* the check of a logged link is no, or an escrowed link has no unspent row: chain */
@@ -113,8 +126,7 @@ enum caif_code {
     CAIF_HIGH_PLACE = 22,    /* level one: place above 3 in a create, or in a hand over other than CAIF_NONE */
     CAIF_OTHER_VALUE = 23,   /* level one: the log has a row of this identity with another value, also where it has one with
                               * this value too: attest */
-    CAIF_OUT_OF_RANGE = 24,  /* desk: reading or setpoint outside -500 to 3,000; a list: not 1 to CAIF_TANKS tanks, or not as
-                              * many answers */
+    CAIF_OUT_OF_RANGE = 24,  /* desk: reading or setpoint outside -500 to 3,000; a list: not 1 to CAIF_TANKS tanks */
     CAIF_NOT_LOGGED = 25,    /* desk: the correction is not logged, or the box refused to check it */
     CAIF_CORRECTION_RANGE = 26 /* desk: the correction is outside -50 to 50 */
 };
@@ -124,6 +136,9 @@ struct caif_used {
     uint16_t rows;
     uint16_t bytes;
 };
+CAIF_SIZE(caif_used, 4)
+CAIF_FIELD(caif_used, rows, 0)
+CAIF_FIELD(caif_used, bytes, 2)
 
 /* The box record. 144 bytes. */
 struct caif_box {
@@ -133,6 +148,12 @@ struct caif_box {
     struct caif_used log;
     struct caif_used escrow;
 };
+CAIF_SIZE(caif_box, 144)
+CAIF_FIELD(caif_box, taken, 0)
+CAIF_FIELD(caif_box, running, 2)
+CAIF_FIELD(caif_box, identities, 8)
+CAIF_FIELD(caif_box, log, 136)
+CAIF_FIELD(caif_box, escrow, 140)
 
 /* A row of the log: that identity logged length bytes, from first on in the log's values. 24 bytes. */
 struct caif_log_row {
@@ -141,6 +162,11 @@ struct caif_log_row {
     uint16_t first;
     uint16_t length;
 };
+CAIF_SIZE(caif_log_row, 24)
+CAIF_FIELD(caif_log_row, identity, 0)
+CAIF_FIELD(caif_log_row, tag, 8)
+CAIF_FIELD(caif_log_row, first, 16)
+CAIF_FIELD(caif_log_row, length, 18)
 
 /* A row of the escrow: source protected length bytes for recipient, from first on in the escrow's values. Once recipient
  * has released them the row is spent: its length is 0, and it keeps its handle and is still counted. 32 bytes. */
@@ -152,6 +178,13 @@ struct caif_escrow_row {
     uint16_t length;
     uint8_t mark; /* 1 where the row is spent, else 0 */
 };
+CAIF_SIZE(caif_escrow_row, 32)
+CAIF_FIELD(caif_escrow_row, source, 0)
+CAIF_FIELD(caif_escrow_row, recipient, 8)
+CAIF_FIELD(caif_escrow_row, handle, 16)
+CAIF_FIELD(caif_escrow_row, first, 24)
+CAIF_FIELD(caif_escrow_row, length, 26)
+CAIF_FIELD(caif_escrow_row, mark, 28)
 
 /* An answer, with the box record as the call leaves it. 176 bytes. */
 struct caif_reply {
@@ -161,6 +194,12 @@ struct caif_reply {
     size_t used;     /* bytes of the record; 0 with codes 1, 2, 3 and 15 */
     uint16_t shown;  /* how many bytes stand at the front of the output buffer */
 };
+CAIF_SIZE(caif_reply, 176)
+CAIF_FIELD(caif_reply, held, 0)
+CAIF_FIELD(caif_reply, code, 144)
+CAIF_FIELD(caif_reply, number, 152)
+CAIF_FIELD(caif_reply, used, 160)
+CAIF_FIELD(caif_reply, shown, 168)
 
 /* The numbers of a record's fields; those that the kind does not have are passed over. 32 bytes. */
 struct caif_fields {
@@ -170,12 +209,21 @@ struct caif_fields {
     uint16_t length;
     uint64_t number;  /* a tag, a handle or a draw */
 };
+CAIF_SIZE(caif_fields, 32)
+CAIF_FIELD(caif_fields, place, 0)
+CAIF_FIELD(caif_fields, identity, 8)
+CAIF_FIELD(caif_fields, offset, 16)
+CAIF_FIELD(caif_fields, length, 18)
+CAIF_FIELD(caif_fields, number, 24)
 
 /* What the writer answers. 16 bytes. */
 struct caif_written {
     uint8_t code;   /* 0, CAIF_UNKNOWN_KIND or CAIF_NO_ROOM */
     size_t length;  /* of the record; 0 with a refusal */
 };
+CAIF_SIZE(caif_written, 16)
+CAIF_FIELD(caif_written, code, 0)
+CAIF_FIELD(caif_written, length, 8)
 
 /* A tank, as the desk is asked about it. Temperatures are in hundredths of a degree Celsius. 32 bytes. */
 struct caif_tank {
@@ -187,6 +235,13 @@ struct caif_tank {
                              * given */
     uint8_t correction[2];  /* two's complement, lowest byte first */
 };
+CAIF_SIZE(caif_tank, 32)
+CAIF_FIELD(caif_tank, reading, 0)
+CAIF_FIELD(caif_tank, setpoint, 4)
+CAIF_FIELD(caif_tank, probe, 8)
+CAIF_FIELD(caif_tank, tag, 16)
+CAIF_FIELD(caif_tank, given, 24)
+CAIF_FIELD(caif_tank, correction, 25)
 
 /* What to do with a tank. Reading plus correction minus setpoint above 50 is cool, below -50 is warm, otherwise hold. */
 enum caif_action {
@@ -203,6 +258,10 @@ struct caif_tank_answer {
     uint8_t refusal; /* with CAIF_NOT_LOGGED the code with which the box refused the check (CAIF_IDENTITY_ZERO or
                       * CAIF_NOT_SOUND), or 0 where the check said no; else 0 */
 };
+CAIF_SIZE(caif_tank_answer, 3)
+CAIF_FIELD(caif_tank_answer, code, 0)
+CAIF_FIELD(caif_tank_answer, action, 1)
+CAIF_FIELD(caif_tank_answer, refusal, 2)
 
 /* The box record of a fresh box. The lent tables and buffers of a fresh box are all zeros. */
 struct caif_box caif_fresh(void);
@@ -244,29 +303,34 @@ struct caif_written caif_write(uint8_t kind, struct caif_fields fields,
  * range. */
 struct caif_tank_answer caif_desk(struct caif_tank tank,
                                   struct caif_box held,
-                                  struct caif_log_row *log, size_t log_rows,
-                                  struct caif_escrow_row *escrow, size_t escrow_rows,
-                                  uint8_t *heaps, size_t heaps_size,
-                                  uint8_t *shared, size_t shared_size,
-                                  uint8_t *log_values, size_t log_values_size,
-                                  uint8_t *escrow_values, size_t escrow_values_size,
-                                  uint8_t *output, size_t output_size);
+                                  const struct caif_log_row *log, size_t log_rows,
+                                  const struct caif_escrow_row *escrow, size_t escrow_rows,
+                                  const uint8_t *heaps, size_t heaps_size,
+                                  const uint8_t *shared, size_t shared_size,
+                                  const uint8_t *log_values, size_t log_values_size,
+                                  const uint8_t *escrow_values, size_t escrow_values_size,
+                                  const uint8_t *output, size_t output_size);
 
-/* A list of 1 to CAIF_TANKS tanks in order, each with its own answer in answers, which has as many. Gives 0; or
- * CAIF_OUT_OF_RANGE where the list is refused whole, and then no answer is written. */
+/* A list of 1 to CAIF_TANKS tanks in order, each with its own answer in answers, which has as many. Gives 0; or, where the
+ * list is refused whole, CAIF_NOT_SOUND for another count of answers than of tanks, then CAIF_OUT_OF_RANGE for another
+ * count of tanks, and no answer is written. The box's own sizes and soundness show in the tanks' answers alone. */
 uint8_t caif_shift(const struct caif_tank *tanks, size_t tanks_count,
                    struct caif_tank_answer *answers, size_t answers_count,
                    struct caif_box held,
-                   struct caif_log_row *log, size_t log_rows,
-                   struct caif_escrow_row *escrow, size_t escrow_rows,
-                   uint8_t *heaps, size_t heaps_size,
-                   uint8_t *shared, size_t shared_size,
-                   uint8_t *log_values, size_t log_values_size,
-                   uint8_t *escrow_values, size_t escrow_values_size,
-                   uint8_t *output, size_t output_size);
+                   const struct caif_log_row *log, size_t log_rows,
+                   const struct caif_escrow_row *escrow, size_t escrow_rows,
+                   const uint8_t *heaps, size_t heaps_size,
+                   const uint8_t *shared, size_t shared_size,
+                   const uint8_t *log_values, size_t log_values_size,
+                   const uint8_t *escrow_values, size_t escrow_values_size,
+                   const uint8_t *output, size_t output_size);
 
 #ifdef __cplusplus
 }
 #endif
+
+#undef CAIF_FIELD
+#undef CAIF_SIZE
+#undef CAIF_ASSERT
 
 #endif

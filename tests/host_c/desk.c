@@ -196,7 +196,7 @@ static const struct asked mixed[MOST] = {
     {"10 of a list", 0, 0, NO_CORRECTION, HOLDS},
 };
 
-/* Every count of tanks, with as many answers, one fewer and one more. */
+/* Every count of tanks, with as many answers, one fewer and one more: 15 before 24. */
 static void check_lists(struct host *host)
 {
     for (size_t count = 0; count <= MOST; count++) {
@@ -204,9 +204,9 @@ static void check_lists(struct host *host)
         char label[32];
         snprintf(label, sizeof label, "a list of %zu", count);
         check_list(host, &right_sizes, mixed, count, count, code, label);
-        check_list(host, &right_sizes, mixed, count, count + 1, CAIF_OUT_OF_RANGE, "an answer more");
+        check_list(host, &right_sizes, mixed, count, count + 1, CAIF_NOT_SOUND, "an answer more");
         if (count > 0)
-            check_list(host, &right_sizes, mixed, count, count - 1, CAIF_OUT_OF_RANGE, "an answer fewer");
+            check_list(host, &right_sizes, mixed, count, count - 1, CAIF_NOT_SOUND, "an answer fewer");
     }
     for (size_t first = 1; first < MOST; first++) {
         size_t rest = MOST - first, count = rest < CAIF_TANKS ? rest : CAIF_TANKS;
@@ -233,6 +233,7 @@ static void check_not_sound(const struct host *probes)
     check_tanks(&host, &right_sizes, not_sound, COUNT(not_sound));
     check_list(&host, &right_sizes, not_sound, COUNT(not_sound), COUNT(not_sound), CAIF_ACCEPTED, "another tag");
     check_list(&host, &right_sizes, not_sound, 0, 0, CAIF_OUT_OF_RANGE, "an empty list on a box that is not sound");
+    check_list(&host, &right_sizes, not_sound, 0, 1, CAIF_NOT_SOUND, "an empty list with an answer, on such a box");
 }
 
 void check_desk(void)

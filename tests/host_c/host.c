@@ -41,12 +41,12 @@ struct caif_reply call_level_one(struct host *host, const struct sizes *sizes, c
     return reply;
 }
 
-struct caif_tank_answer desk(struct host *host, const struct sizes *sizes, struct caif_tank tank)
+struct caif_tank_answer desk(const struct host *host, const struct sizes *sizes, struct caif_tank tank)
 {
     return caif_desk(tank, LENT(host, sizes));
 }
 
-uint8_t shift(struct host *host, const struct sizes *sizes, const struct caif_tank *tanks, size_t count,
+uint8_t shift(const struct host *host, const struct sizes *sizes, const struct caif_tank *tanks, size_t count,
               struct caif_tank_answer *answers, size_t lent)
 {
     return caif_shift(tanks, count, answers, lent, LENT(host, sizes));
@@ -113,6 +113,7 @@ int main(void)
     check_refusals();
     check_level_one();
     check_desk();
+    check_read_only();
     printf("%u passed, %u failed\n", passed, failed);
     return passed == 0 || failed != 0;
 }

@@ -40,8 +40,8 @@ struct caif_reply call(struct host *host, const struct sizes *sizes, const uint8
 struct caif_reply call_level_one(struct host *host, const struct sizes *sizes, const uint8_t *bytes, size_t count);
 
 /* One tank at the desk, and a list of them. */
-struct caif_tank_answer desk(struct host *host, const struct sizes *sizes, struct caif_tank tank);
-uint8_t shift(struct host *host, const struct sizes *sizes, const struct caif_tank *tanks, size_t count,
+struct caif_tank_answer desk(const struct host *host, const struct sizes *sizes, struct caif_tank tank);
+uint8_t shift(const struct host *host, const struct sizes *sizes, const struct caif_tank *tanks, size_t count,
               struct caif_tank_answer *answers, size_t lent);
 
 /* Asserts each part of the box and of the buffers, and the elements that are not lent. */
@@ -59,5 +59,6 @@ void check_calls(void);
 void check_refusals(void);
 void check_level_one(void);
 void check_desk(void);
+void check_read_only(void);
 
 #endif

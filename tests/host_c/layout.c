@@ -1,72 +1,19 @@
-/* Size, alignment and offsets of each struct, sizes, kinds, ways and codes, as the header says. */
+/* Alignment of each struct, whose size and offsets the header asserts; sizes, kinds, ways and codes, as the header says. */
 #include "host.h"
 
-#define SIZE(type, size, align)                                                   \
-    check(sizeof(struct type) == (size), "layout", "size of " #type);             \
-    check(_Alignof(struct type) == (align), "layout", "alignment of " #type)
-#define FIELD(type, field, offset) check(offsetof(struct type, field) == (offset), "layout", #type "." #field)
+#define ALIGNED(type, bytes) check(_Alignof(struct type) == (bytes), "layout", "alignment of " #type)
 
-static void check_held(void)
+static void check_aligned(void)
 {
-    SIZE(caif_used, 4, 2);
-    FIELD(caif_used, rows, 0);
-    FIELD(caif_used, bytes, 2);
-    SIZE(caif_box, 144, 8);
-    FIELD(caif_box, taken, 0);
-    FIELD(caif_box, running, 2);
-    FIELD(caif_box, identities, 8);
-    FIELD(caif_box, log, 136);
-    FIELD(caif_box, escrow, 140);
-}
-
-static void check_rows(void)
-{
-    SIZE(caif_log_row, 24, 8);
-    FIELD(caif_log_row, identity, 0);
-    FIELD(caif_log_row, tag, 8);
-    FIELD(caif_log_row, first, 16);
-    FIELD(caif_log_row, length, 18);
-    SIZE(caif_escrow_row, 32, 8);
-    FIELD(caif_escrow_row, source, 0);
-    FIELD(caif_escrow_row, recipient, 8);
-    FIELD(caif_escrow_row, handle, 16);
-    FIELD(caif_escrow_row, first, 24);
-    FIELD(caif_escrow_row, length, 26);
-    FIELD(caif_escrow_row, mark, 28);
-}
-
-static void check_answers(void)
-{
-    SIZE(caif_reply, 176, 8);
-    FIELD(caif_reply, held, 0);
-    FIELD(caif_reply, code, 144);
-    FIELD(caif_reply, number, 152);
-    FIELD(caif_reply, used, 160);
-    FIELD(caif_reply, shown, 168);
-    SIZE(caif_fields, 32, 8);
-    FIELD(caif_fields, place, 0);
-    FIELD(caif_fields, identity, 8);
-    FIELD(caif_fields, offset, 16);
-    FIELD(caif_fields, length, 18);
-    FIELD(caif_fields, number, 24);
-    SIZE(caif_written, 16, 8);
-    FIELD(caif_written, code, 0);
-    FIELD(caif_written, length, 8);
-}
-
-static void check_tank(void)
-{
-    SIZE(caif_tank, 32, 8);
-    FIELD(caif_tank, reading, 0);
-    FIELD(caif_tank, setpoint, 4);
-    FIELD(caif_tank, probe, 8);
-    FIELD(caif_tank, tag, 16);
-    FIELD(caif_tank, given, 24);
-    FIELD(caif_tank, correction, 25);
-    SIZE(caif_tank_answer, 3, 1);
-    FIELD(caif_tank_answer, code, 0);
-    FIELD(caif_tank_answer, action, 1);
-    FIELD(caif_tank_answer, refusal, 2);
+    ALIGNED(caif_used, 2);
+    ALIGNED(caif_box, 8);
+    ALIGNED(caif_log_row, 8);
+    ALIGNED(caif_escrow_row, 8);
+    ALIGNED(caif_reply, 8);
+    ALIGNED(caif_fields, 8);
+    ALIGNED(caif_written, 8);
+    ALIGNED(caif_tank, 8);
+    ALIGNED(caif_tank_answer, 1);
 }
 
 /* The sizes that documents 01 and 02 name. */
@@ -191,8 +138,5 @@ void check_layout(void)
     check_ways();
     check_codes();
     check_actions();
-    check_held();
-    check_rows();
-    check_answers();
-    check_tank();
+    check_aligned();
 }

@@ -58,14 +58,14 @@ static void asks(const char *where, const char *name, unsigned box, struct sizes
     }
 }
 
-static void refuses(unsigned tanks, unsigned answers)
+static void refuses(unsigned tanks, unsigned answers, uint8_t code)
 {
     char name[64];
     snprintf(name, sizeof name, "a list of %u with %u answers", tanks, answers);
     struct trial *trial = add(SHIFT, "full box", name, FULL);
     trial->tanks = tanks;
     trial->answers = answers;
-    trial->wanted = (struct answer){CAIF_OUT_OF_RANGE, 0};
+    trial->wanted = (struct answer){code, 0};
 }
 
 #define REFUSED(number) (256 * (number))
@@ -113,8 +113,10 @@ void make_desks(void)
         snprintf(name, sizeof name, "damage %u", n - DAMAGED + 1);
         asks("box that is not sound", name, n, right_sizes, logged(7, 0), CAIF_NOT_LOGGED, REFUSED(15));
     }
-    refuses(0, 0);
-    refuses(9, 9);
-    refuses(1, 0);
-    refuses(8, 7);
+    refuses(0, 0, CAIF_OUT_OF_RANGE);
+    refuses(9, 9, CAIF_OUT_OF_RANGE);
+    refuses(0, 1, CAIF_NOT_SOUND);
+    refuses(1, 0, CAIF_NOT_SOUND);
+    refuses(8, 7, CAIF_NOT_SOUND);
+    refuses(9, 8, CAIF_NOT_SOUND);
 }

@@ -1,9 +1,9 @@
--- A call on the copies of lent rows is a call on the lent rows; and rows that are not 64 are refused. Assumes nothing.
+-- A call on the copies of lent rows is a call on the lent rows; and rows that no sound box has are refused. Assumes nothing.
 use Prim.Native.Nat.{ℕ}
 use mathlib.Core.Path.{_≡_, sym, _∙_}
 use mathlib.Core.Bool.{true, false, true≢false}
 use mathlib.Core.List.{List}
-use lib.ListN.{length}
+use lib.ListN.{length, drop}
 use lib.Dec.{eqb}
 use borrow.Author.Tests.{eqb-true, eq-eqb, not-false}
 use Rattle.lists.proofs.Bools.{by-cases, and-left, and-right}
@@ -13,7 +13,9 @@ use Rattle.ideal.specs.declared.LogRow.{LogRow}
 use Rattle.ideal.specs.declared.EscrowRow.{EscrowRow}
 use Rattle.ideal.specs.LevelOne.{refusalIn, boxOf}
 use Rattle.ideal.proofs.Facts.{facts}
-use Rattle.soundness.specs.Parts.{tablesOf}
+use Rattle.ideal.specs.State.{every}
+use Rattle.ideal.specs.Tables.{Tables, RowsOf, logTable, escrowTable}
+use Rattle.soundness.specs.Parts.{tablesOf, RestBlank}
 use Rattle.state.specs.declared.LogTable.{LogTable}
 use Rattle.state.specs.declared.EscrowTable.{EscrowTable}
 use Rattle.state.specs.declared.Change.{Change}
@@ -22,9 +24,9 @@ use Rattle.state.specs.Edits.{logEdited, escrowEdited, Fits, EditsBy}
 use Rattle.state.proofs.Edited.{escrow-fits}
 use Rattle.calls.specs.Entry.{resultOf, readyOn, entryOn}
 use Rattle.calls.proofs.Whole.{refused-entry, ready-sound}
+use Rattle.rows.specs.Unfit.{unfit}
 use Rattle.caif.specs.declared.LentReply.{LentReply}
 use Rattle.caif.specs.Lent.{lentTables, lentResult}
-use Rattle.caif.specs.Counted.{rowsLost}
 
 -- what a host is given
 abbrev pub replyOf : Change → LentReply
@@ -56,25 +58,45 @@ settles p b log escrow heaps shared lv ev output bytes c el ee nl ne said =
       escrowFits = rw ne (escrow-fits (said .1 .escrow));
     }
 
--- ---- the counts
+-- ---- rows that no sound box has
 
-pub rows-whole : (n m : ℕ) → rowsLost n m ≡ false → (n ≡ 64) × (m ≡ 64)
-unfolding rowsLost
-rows-whole n m e =
+-- the others: they are 64, and the unused ones blank
+abbrev pub Fitting : {Row Key : Type 0} → RowsOf Row Key → (n : ℕ) → List Row → Type 0
+Fitting t n rows = (length rows ≡ 64) × (every (t .isBlank) (drop n rows) ≡ true)
+
+pub fitting : {Row Key : Type 0} (t : RowsOf Row Key) (n : ℕ) (rows : List Row) → unfit t n rows ≡ false → Fitting t n rows
+unfolding unfit
+fitting t n rows e =
     let both = not-false _ e in
-    (eqb-true n 64 (and-left (eqb n 64) _ both), eqb-true m 64 (and-right (eqb n 64) _ both))
+    (eqb-true (length rows) 64 (and-left (eqb (length rows) 64) _ both), and-right (eqb (length rows) 64) _ both)
+
+pub rest-blank : (b : BoxRecord) {log : LogTable} {escrow : EscrowTable} {logRows : List LogRow} {escrowRows : List EscrowRow}
+    → log .rows ≡ logRows → escrow .rows ≡ escrowRows → Fitting logTable (b .log .rows) logRows → Fitting escrowTable (b .escrow .rows) escrowRows
+    → RestBlank b (log .rows) (escrow .rows)
+rest-blank b el ee f g = record { logBlank = rw el (f .1); escrowBlank = rw ee (g .1) }
+
+module _ (t : Tables) (n : ℕ) where
+  pub log-unready : unfit logTable (t .box .log .rows) (t .logRows) ≡ true → readyOn t n ≡ false
+  unfolding unfit
+  log-unready e =
+      by-cases (readyOn t n)
+      (λ h.
+      let s = facts t n (ready-sound t n h) .log in
+      absurd (true≢false (sym e ∙ rw (eq-eqb (length (t .logRows)) 64 (s .row-count), s .blank))))
+      (λ h. h)
+
+  pub escrow-unready : unfit escrowTable (t .box .escrow .rows) (t .escrowRows) ≡ true → readyOn t n ≡ false
+  unfolding unfit
+  escrow-unready e =
+      by-cases (readyOn t n)
+      (λ h.
+      let s = facts t n (ready-sound t n h) .escrow in
+      absurd (true≢false (sym e ∙ rw (eq-eqb (length (t .escrowRows)) 64 (s .row-count), s .blank))))
+      (λ h. h)
 
 pub refused-result : (p : Profile) (b : BoxRecord) (logRows : List LogRow) (escrowRows : List EscrowRow) (heaps shared lv ev output bytes : List ℕ)
-    → rowsLost (length logRows) (length escrowRows) ≡ true
+    → readyOn (lentTables b logRows escrowRows heaps shared lv ev) (length output) ≡ false
     → lentResult (record { held = b; answer = refusedWith 15 }) logRows escrowRows heaps shared lv ev output
     ≡ entryOn (boxOf p) (lentTables b logRows escrowRows heaps shared lv ev) bytes output
-unfolding rowsLost
 refused-result p b logRows escrowRows heaps shared lv ev output bytes e =
-    let t = lentTables b logRows escrowRows heaps shared lv ev in
-    let n = length output in
-    refused-entry (refusalIn p) t bytes output
-    (by-cases (readyOn t n)
-    (λ h.
-    let f = facts t n (ready-sound t n h) in
-    absurd (true≢false (sym e ∙ rw (eq-eqb (length logRows) 64 (f .log .row-count), eq-eqb (length escrowRows) 64 (f .escrow .row-count)))))
-    (λ h. h))
+    refused-entry (refusalIn p) (lentTables b logRows escrowRows heaps shared lv ev) bytes output e

@@ -4,9 +4,8 @@ ghost use Rattle.ideal.specs.LevelOne.{boxOf};
 ghost use Rattle.calls.specs.Entry.{entryOn};
 ghost use Rattle.caif.specs.Lent.{lentTables, lentResult};
 use crate::LentReply;
-use crate::counted::lost;
-use crate::counted::refused_rows;
-use calls::call;
+use crate::refusal::refused_rows;
+use calls::call_blank;
 use ideal::BoxRecord;
 use ideal::EscrowRow;
 use ideal::LogRow;
@@ -15,6 +14,8 @@ use rows::copy_escrow;
 use rows::copy_log;
 use rows::edit_escrow;
 use rows::edit_log;
+use rows::escrow_unfit;
+use rows::log_unfit;
 
 // One record in a profile on any box, over lent rows and buffers of any count.
 pub fn lent_call(
@@ -36,12 +37,15 @@ pub fn lent_call(
         ⌝ }
 {
     // Before the copies: a table that is copied in one arm and made in another is moved at every use.
-    if lost(log.len(), escrow.len()) {
+    if log_unfit(&*log, held.log.rows as usize) {
+        return refused_rows(held);
+    }
+    if escrow_unfit(&*escrow, held.escrow.rows as usize) {
         return refused_rows(held);
     }
     let l = copy_log(&*log);
     let e = copy_escrow(&*escrow);
-    let c = call(
+    let c = call_blank(
         profile,
         held,
         l,

@@ -1,7 +1,7 @@
 // The box for hosts in C: what include/caif.h declares.
-mod counted;
 mod entry;
 mod lent;
+mod refusal;
 mod writing;
 
 ghost use mathlib.Core.Path.{_≡_};

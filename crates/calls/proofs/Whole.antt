@@ -1,9 +1,9 @@
 -- What the reader finds, and what the first test says, of the whole box. Assumes nothing.
 use Prim.Native.Nat.{ℕ, zero, suc}
-use mathlib.Core.Path.{_≡_, refl, ap, _∙_}
+use mathlib.Core.Path.{_≡_, refl, sym, ap, _∙_}
 use mathlib.Core.Bool.{true, false, cond, true≢false}
 use mathlib.Core.List.{List}
-use lib.ListN.{length}
+use lib.ListN.{length, drop}
 use lib.Dec.{eqb}
 use borrow.Author.Tests.{eqb-true}
 use Rattle.record.specs.Call.{Call}
@@ -12,15 +12,16 @@ use Rattle.record.specs.declared.Reading as found
 use Rattle.record.specs.declared.Reading.the-variants.{Whole}
 use Rattle.record.specs.Read.{refused, read}
 use Rattle.record.specs.Meaning.{callIn, readingIn}
-use Rattle.ideal.specs.State.{State}
+use Rattle.ideal.specs.State.{State, every}
 use Rattle.ideal.specs.Step.{refusal, refuse, refusedAnswer, accepted, settle, stepBy, readingBy, stepOnBy}
-use Rattle.ideal.specs.Tables.{Tables, stateOf}
+use Rattle.ideal.specs.Tables.{Tables, logTable, escrowTable, stateOf}
 use Rattle.ideal.specs.Soundness.{pass, sizesRight, sound}
 use Rattle.ideal.specs.Box.{laid, unsound, boxBy, outputAfter}
 use Rattle.ideal.specs.Layouts.{Sound}
 use Rattle.ideal.specs.declared.Profile.{Profile}
 use Rattle.ideal.specs.LevelOne.{refusalIn, boxOf}
-use Rattle.lists.proofs.Bools.{and-left, and-right}
+use Rattle.lists.proofs.Bools.{by-cases, and-left, and-right}
+use Rattle.ideal.proofs.Facts.{facts}
 use Rattle.ideal.proofs.Laid.{valid-sound, tables-state}
 use Rattle.ideal.specs.declared.BoxRecord.{BoxRecord}
 use Rattle.state.specs.declared.LogTable.{LogTable}
@@ -117,6 +118,15 @@ pub ready-sound : (t : Tables) (n : ℕ) → readyOn t n ≡ true → Sound t n
 unfolding readyOn
 ready-sound t n h =
     record { sizes = and-left (sizesRight t n) (sound t) h; box = and-right (sizesRight t n) (sound t) h }
+
+-- no ready box has unused rows that aren't blank
+pub log-not-ready : (t : Tables) (n : ℕ) → every (logTable .isBlank) (drop (t .box .log .rows) (t .logRows)) ≡ false → readyOn t n ≡ false
+log-not-ready t n e =
+    by-cases (readyOn t n) (λ h. absurd (true≢false (sym (facts t n (ready-sound t n h) .log .blank) ∙ e))) (λ h. h)
+
+pub escrow-not-ready : (t : Tables) (n : ℕ) → every (escrowTable .isBlank) (drop (t .box .escrow .rows) (t .escrowRows)) ≡ false → readyOn t n ≡ false
+escrow-not-ready t n e =
+    by-cases (readyOn t n) (λ h. absurd (true≢false (sym (facts t n (ready-sound t n h) .escrow .blank) ∙ e))) (λ h. h)
 
 pub sizes-lent : (t : Tables) (n : ℕ) → sizesRight t n ≡ true → Lent (t .heaps) (t .logValues) (t .escrowValues)
 unfolding sizesRight pass

@@ -1,6 +1,7 @@
 -- What the entry leaves and answers. The contract of `call` equates the code's `resultOf` with the definition's `entryOn`.
 use Prim.Native.Nat.{ℕ}
-use mathlib.Core.Bool.{Bool, _&&_}
+use mathlib.Core.Path.{_≡_}
+use mathlib.Core.Bool.{Bool, false, _&&_}
 use mathlib.Core.List.{List}
 use lib.ListN.{length}
 use Rattle.record.specs.Call.{Call}
@@ -9,8 +10,9 @@ use Rattle.ideal.specs.declared.Profile.the-variants.{Full}
 use Rattle.ideal.specs.Step.{stepBy, stepOnBy}
 use Rattle.ideal.specs.Tables.{Tables, stateOf}
 use Rattle.ideal.specs.Soundness.{sizesRight, sound}
-use Rattle.ideal.specs.Box.{Element, Result, laid, outputAfter}
+use Rattle.ideal.specs.Box.{Element, given, Result, laid, outputAfter, callOn}
 use Rattle.ideal.specs.LevelOne.{refusalIn}
+use Rattle.ideal.specs.LevelOneDemands.{barring}
 use Rattle.state.specs.declared.LogTable.{LogTable}
 use Rattle.state.specs.declared.EscrowTable.{EscrowTable}
 use Rattle.state.specs.declared.Answer.{Answer}
@@ -53,7 +55,22 @@ resultOn r output =
 
 -- a whole box
 unfoldable pub entryOn : (Tables → Element → Result) → Tables → (bytes output : List ℕ) → EntryResult
-entryOn box t bytes output = resultOn (box t (record { bytes = bytes; outputSize = length output })) output
+entryOn box t bytes output = resultOn (box t (given bytes (length output))) output
+
+-- a refusal leaves the box record, the tables and every lent buffer, the output buffer too, as they were
+pub record Leaves (t : Tables) (buffer : List ℕ) (r : EntryResult) : Type 0 where
+  pub tables : r .tables ≡ t
+  pub output : r .output ≡ buffer
+
+abbrev pub EntryRefuses : (Tables → Element → Result) → Type 0
+EntryRefuses box = (t : Tables) (bytes output : List ℕ) → (entryOn box t bytes output .answer .code ≡ 0 → ⊥)
+    → Leaves t output (entryOn box t bytes output)
+
+-- where it gives none of the three numbers, the entry of level one leaves and answers what the full box's does, the output
+-- buffer too
+abbrev pub EntryElseFull : (Tables → Element → Result) → Type 0
+EntryElseFull box = (t : Tables) (bytes output : List ℕ) → barring (entryOn box t bytes output .answer .code) ≡ false
+    → entryOn box t bytes output ≡ entryOn callOn t bytes output
 
 -- ---- its parts
 

@@ -6,7 +6,8 @@ ghost use mathlib.Core.Path.{_≡_};
 ghost use lib.ListN.{length};
 ghost use Rattle.ideal.specs.Layouts.{Sound};
 ghost use Rattle.ideal.specs.LevelOne.{boxOf};
-ghost use Rattle.soundness.specs.Parts.{tablesOf};
+ghost use Rattle.soundness.specs.Parts.{tablesOf, RestBlank};
+ghost use Rattle.state.specs.Answers.{refusedWith};
 ghost use Rattle.state.specs.Edits.{unchanged, EditsBy};
 ghost use Rattle.calls.specs.Entry.{resultOf, withUsed, cutWith, readyOn, soundOn, entryOn};
 use ideal::BoxRecord;
@@ -14,6 +15,8 @@ use ideal::Profile;
 use reader::read_call;
 use record::Reading;
 use sound::box_sound;
+use sound::escrow_rest_blank;
+use sound::log_rest_blank;
 use sound::sizes_right;
 use state::Change;
 use state::EscrowTable;
@@ -43,7 +46,14 @@ fn refuse_cut(held: BoxRecord, missing: usize) -> Change
     change
 }
 
-// Whether the lent buffers are of their sizes and the box is sound.
+// The refusal of buffers that are not of their sizes, and of a box that isn't sound.
+fn refuse_unsound(held: BoxRecord) -> Change
+    ensures { λ r. ⌜ r ≡ unchanged held (refusedWith 15) ⌝ }
+{
+    refuse(held, 15)
+}
+
+// Whether the lent buffers are of their sizes and the box is sound, where its unused rows are blank.
 pub fn is_ready(
     held: BoxRecord,
     log: LogTable,
@@ -54,6 +64,7 @@ pub fn is_ready(
     escrow_values: &[u8],
     output: &[u8],
 ) -> bool
+    requires { ⌜ RestBlank held (log .rows) (escrow .rows) ⌝ }
     ensures { λ r. ⌜
         r ≡ readyOn (tablesOf held log escrow (now (heaps .entry)) (now (shared .entry)) (now («log_values» .entry)) (now («escrow_values» .entry)))
         (length (now (output .entry)))
@@ -111,6 +122,53 @@ pub fn call_sound(
     }
 }
 
+// One record in a profile on any box whose unused rows are blank, with buffers of any length.
+pub fn call_blank(
+    profile: Profile,
+    held: BoxRecord,
+    log: LogTable,
+    escrow: EscrowTable,
+    heaps: &mut [u8],
+    shared: &mut [u8],
+    log_values: &mut [u8],
+    escrow_values: &mut [u8],
+    output: &mut [u8],
+    bytes: &[u8],
+) -> Change
+    requires { ⌜ RestBlank held (log .rows) (escrow .rows) ⌝ }
+    ensures { λ r. ⌜
+        resultOf log escrow r (now (heaps .exit)) (now (shared .exit)) (now («log_values» .exit)) (now («escrow_values» .exit)) (now (output .exit))
+        ≡ entryOn (boxOf profile) (tablesOf held log escrow (now (heaps .entry)) (now (shared .entry)) (now («log_values» .entry)) (now («escrow_values» .entry)))
+        (now (bytes .entry)) (now (output .entry))
+        ⌝ }
+    ensures { λ r. ⌜ EditsBy held (escrow .rows) (r .held) (r .edits) ⌝ }
+{
+    if !is_ready(
+        held,
+        log,
+        escrow,
+        heaps,
+        shared,
+        log_values,
+        escrow_values,
+        output,
+    ) {
+        return refuse_unsound(held);
+    }
+    call_sound(
+        profile,
+        held,
+        log,
+        escrow,
+        heaps,
+        shared,
+        log_values,
+        escrow_values,
+        output,
+        bytes,
+    )
+}
+
 // One record in a profile on any box, with buffers of any length.
 pub fn call(
     profile: Profile,
@@ -131,19 +189,17 @@ pub fn call(
         ⌝ }
     ensures { λ r. ⌜ EditsBy held (escrow .rows) (r .held) (r .edits) ⌝ }
 {
-    if !is_ready(
-        held,
-        log,
-        escrow,
-        heaps,
-        shared,
-        log_values,
-        escrow_values,
-        output,
-    ) {
-        return refuse(held, 15);
+    let log_rows = log.rows;
+    let log_used = held.log;
+    if !log_rest_blank(log_rows, log_used.rows as usize) {
+        return refuse_unsound(held);
     }
-    call_sound(
+    let escrow_rows = escrow.rows;
+    let escrow_used = held.escrow;
+    if !escrow_rest_blank(escrow_rows, escrow_used.rows as usize) {
+        return refuse_unsound(held);
+    }
+    call_blank(
         profile,
         held,
         log,

@@ -4,7 +4,7 @@
 --     desk-is-accurate
 -- Assumes nothing.
 use mathlib.Core.Path.{_≡_, refl, sym, _∙_, ap}
-use mathlib.Core.Bool.{Bool, true, false, cond, _&&_}
+use mathlib.Core.Bool.{Bool, true, false, cond, _&&_, false≢true}
 use mathlib.Core.Logic.{_↔_, _⊎_, inl, inr}
 use mathlib.Core.List.{List, [], _∷_, _++_}
 use Prim.Native.Nat.{ℕ, zero, suc, _+_, _*_, _-_, _<_, _≤_, _^_}
@@ -12,10 +12,10 @@ use native.Mathlib.Nat.{le-of-lt}
 use native.Mathlib.Omega.{arith}
 use lib.ListN.{length, getD}
 use lib.Seq.{take-append-seam, take-append-le}
-use lib.Dec.{eqb, ltb}
+use lib.Dec.{T, eqb, ltb}
 use lib.IntN.{ℤ, pos, negsuc, _+ℤ_, _-ℤ_}
-use lib.Signed.{ltZ}
-use borrow.Author.Tests.{eq-eqb, eqb-true, eqb-false, lt-ltb, ltb-true, ltb-false, le-leb, ne-eqb}
+use lib.Signed.{ltZ, leZ, _≤ℤ_, _<ℤ_}
+use borrow.Author.Tests.{eq-eqb, eqb-true, eqb-false, lt-ltb, ltb-true, ltb-false, le-leb, leb-true, ne-eqb}
 use Rattle.lists.proofs.Bools.{by-cases, and-left, and-right, and-true}
 use Rattle.fnv.specs.declared.Tag.{Tag}
 use Rattle.record.specs.Read.{whole, read}
@@ -24,7 +24,7 @@ use Rattle.ideal.specs.State.{any}
 use Rattle.ideal.specs.Step.{Answer}
 use Rattle.ideal.specs.Tables.{Tables, usedLog}
 use Rattle.ideal.specs.Soundness.{sizesRight, sound}
-use Rattle.ideal.specs.Box.{Element, Result, callOn, elementAt, tablesAfter, tablesBefore, answerAt}
+use Rattle.ideal.specs.Box.{Element, given, Result, callOn, elementAt, tablesAfter, tablesBefore, answerAt}
 use Rattle.ideal.specs.Accuracy.{Earlier, LogsAt, CheckAt}
 use Rattle.ideal.specs.Refusals.{callerIn, ownBytes, isLogRow}
 use Rattle.ideal.proofs.Demanded.{demands}
@@ -37,9 +37,104 @@ use Rattle.desk.specs.declared.Correction.the-variants.{NotGiven, Given}
 use Rattle.desk.specs.Decision.{between, inRange, correctionInRange, signed, told, answerOf, decided, saysYes, corrected, judged, claimOf, correctionOf, deskBy}
 use Rattle.desk.specs.Desk.{checkOf, checkElement, checkedOn, deskOn}
 use Rattle.desk.specs.Accuracy as S
-use Rattle.desk.specs.Accuracy.{TwosComplement, SignedIsTwosComplement, InRange, DeskOnAny, DeskIsAccurate}
+use Rattle.desk.specs.Accuracy.{Within, TwosComplement, SignedIsTwosComplement, DeskOnAny, DeskIsAccurate}
 use Rattle.desk.proofs.Record.{reads}
 use Rattle.desk.proofs.Answering.{answers-15, answers-9, answers-0, row-is-one, no-row-is-none, one-or-none}
+
+-- ---- tests, and the order that they decide
+
+holds : (b : Bool) → b ≡ true → T b
+holds true e = tt
+holds false e = absurd (false≢true e)
+
+is-true : (b : Bool) → T b → b ≡ true
+is-true true t = refl
+is-true false t = absurd t
+
+is-within : (low high x : ℤ) → between low high x ≡ true → Within low high x
+unfolding between
+is-within low high x e =
+    (record { le = holds _ (and-left (leZ low x) _ e) }, record { le = holds _ (and-right (leZ low x) _ e) })
+
+within-is : (low high x : ℤ) → Within low high x → between low high x ≡ true
+unfolding between
+within-is low high x w = and-true (leZ low x) (leZ x high) (is-true (leZ low x) (w .0 .le)) (is-true (leZ x high) (w .1 .le))
+
+not-within : (low high x : ℤ) → between low high x ≡ false → Within low high x → ⊥
+not-within low high x e w = false≢true (sym e ∙ within-is low high x w)
+
+within-not : (low high x : ℤ) → (Within low high x → ⊥) → between low high x ≡ false
+within-not low high x n = by-cases (between low high x) (λ e. absurd (n (is-within low high x e))) (λ e. e)
+
+-- the action for a difference
+record Acts (d : ℤ) (a : TankAnswer) : Type 0 where
+  cool : (a .action ≡ 2) ↔ (pos 50 <ℤ d)
+  warm : (a .action ≡ 3) ↔ (d <ℤ negsuc 49)
+  hold : (a .action ≡ 1) ↔ Within (negsuc 49) (pos 50) d
+  code : a .code ≡ 0
+  refusal : a .refusal ≡ 0
+
+acts : (d : ℤ) → Acts d (decided d)
+unfolding decided answerOf told
+acts (pos n) =
+    by-cases (ltb 50 n)
+    (λ e.
+    rw e
+    (record {
+      cool = (λ _. record { lt = holds _ e }, λ _. refl);
+      warm = (λ z. absurd (omega arith), λ l. absurd (l .lt));
+      hold = (λ z. absurd (omega arith), λ w. absurd (omega (arith, ltb-true 50 n e, leb-true n 50 (is-true _ (w .1 .le)))));
+      code = refl;
+      refusal = refl;
+    }))
+    (λ e.
+    let l : n ≤ 50 = ltb-false 50 n e in
+    rw e
+    (record {
+      cool = (λ z. absurd (omega arith), λ l. absurd (false≢true (sym e ∙ is-true _ (l .lt))));
+      warm = (λ z. absurd (omega arith), λ l. absurd (l .lt));
+      hold = (λ z. (record { le = tt }, record { le = holds _ (le-leb n 50 l) }), λ _. refl);
+      code = refl;
+      refusal = refl;
+    }))
+acts (negsuc n) =
+    by-cases (ltb 49 n)
+    (λ e.
+    rw e
+    (record {
+      cool = (λ z. absurd (omega arith), λ l. absurd (l .lt));
+      warm = (λ _. record { lt = holds _ e }, λ _. refl);
+      hold = (λ z. absurd (omega arith), λ w. absurd (omega (arith, ltb-true 49 n e, leb-true n 49 (is-true _ (w .0 .le)))));
+      code = refl;
+      refusal = refl;
+    }))
+    (λ e.
+    let l : n ≤ 49 = ltb-false 49 n e in
+    rw e
+    (record {
+      cool = (λ z. absurd (omega arith), λ l. absurd (l .lt));
+      warm = (λ z. absurd (omega arith), λ l. absurd (false≢true (sym e ∙ is-true _ (l .lt))));
+      hold = (λ z. (record { le = holds _ (le-leb n 49 l) }, record { le = tt }), λ _. refl);
+      code = refl;
+      refusal = refl;
+    }))
+
+decides : (k : Tank) (x : ℤ) {a : TankAnswer} → a ≡ decided (k .reading +ℤ x -ℤ k .setpoint) → S.Decides k x a
+decides k x q =
+    let d = acts (k .reading +ℤ x -ℤ k .setpoint) in
+    rw q (record { cool = d .cool; warm = d .warm; hold = d .hold; code = d .code; refusal = d .refusal })
+
+-- reading and setpoint, as tests
+abbrev InRange : Tank → Type 0
+InRange k = (inRange (k .reading) ≡ true) × (inRange (k .setpoint) ≡ true)
+
+range-is : (k : Tank) → S.InRange k → InRange k
+unfolding inRange
+range-is k r = (within-is _ _ (k .reading) (r .0), within-is _ _ (k .setpoint) (r .1))
+
+is-range : (k : Tank) → InRange k → S.InRange k
+unfolding inRange
+is-range k r = (is-within _ _ (k .reading) (r .0), is-within _ _ (k .setpoint) (r .1))
 
 -- ---- two's complement
 
@@ -51,7 +146,7 @@ module _ (low high : ℕ) (l : low < 256) (h : high < 256) where
   unfolding signed between
   small e =
       let k : n ≤ 32767 = let m = ltb-true n 32768 e in omega (arith, m) in
-      record { is = rw e (inl refl); holds = rw (e, le-leb n 32767 k) }
+      record { is = rw e (inl refl); holds = is-within _ _ _ (rw (e, le-leb n 32767 k)) }
 
   large : ltb n 32768 ≡ false → TwosComplement low high
   unfolding signed between
@@ -59,7 +154,7 @@ module _ (low high : ℕ) (l : low < 256) (h : high < 256) where
       let m = ltb-false n 32768 e in
       let k : n < 65536 = omega (arith, l, h) in
       let j : 65536 - suc n ≤ 32767 = omega (arith, m) in
-      record { is = rw e (inr refl); holds = rw (e, lt-ltb n 65536 k, le-leb (65536 - suc n) 32767 j) }
+      record { is = rw e (inr refl); holds = is-within _ _ _ (rw (e, lt-ltb n 65536 k, le-leb (65536 - suc n) 32767 j)) }
 
 pub signed-is-twos-complement : SignedIsTwosComplement
 signed-is-twos-complement low high l h = by-cases (ltb (low + 256 * high) 32768) (small low high l h) (large low high l h)
@@ -223,18 +318,39 @@ claims : (k : Tank) → S.Gives k → Gives k (claimOf k)
 unfolding correctionOf
 claims k s = record { is = rw (ne-eqb (k .given) 0 (s .given)); probe = s .probe; tag = s .tag }
 
+-- of a correction that is logged
+counted : (k : Tank) (a : TankAnswer) → a ≡ corrected (k .reading) (k .setpoint) (S.amount k) → S.Small k → S.Decides k (S.amount k) a
+unfolding correctionInRange
+counted k a q s = decides k (S.amount k) (q ∙ corrected-small (k .reading) (k .setpoint) (S.amount k) (within-is _ _ _ s))
+
+too-large : (k : Tank) (a : TankAnswer) → a ≡ corrected (k .reading) (k .setpoint) (S.amount k) → (S.Small k → ⊥) → a ≡ told 26 0 0
+unfolding correctionInRange
+too-large k a q n = q ∙ corrected-code (k .reading) (k .setpoint) (S.amount k) (within-not _ _ _ n)
+
 pub desk-on-any : DeskOnAny callOn
 unfolding told correctionOf
 desk-on-any t size k =
     record {
       out-of-range = (
-        λ e r. judged-no (checkedOn callOn t size) (k .reading) (k .setpoint) (correctionOf k) (ap (λ (x : TankAnswer). x .code) (sym (in-range callOn t size k r)) ∙ e),
-        λ z. ap (λ (x : TankAnswer). x .code) (out callOn t size k z),
+        λ e r.
+            judged-no (checkedOn callOn t size) (k .reading) (k .setpoint) (correctionOf k)
+            (ap (λ (x : TankAnswer). x .code) (sym (in-range callOn t size k (range-is k r))) ∙ e),
+        λ z. ap (λ (x : TankAnswer). x .code) (out callOn t size k (λ r. z (is-range k r))),
       );
-      without = λ r z. without callOn t size k r (rw (eq-eqb (k .given) 0 z));
-      unsound = λ r gives. shows-15 t size k (claimOf k) r (claims k gives);
-      identity-zero = λ r gives. shows-9 t size k (claimOf k) r (claims k gives);
-      by-the-log = λ r gives. by-the-log t size k (claimOf k) r (claims k gives);
+      nothing-else = λ e.
+          out callOn t size k
+          (λ r. judged-no (checkedOn callOn t size) (k .reading) (k .setpoint) (correctionOf k)
+          (ap (λ (x : TankAnswer). x .code) (sym (in-range callOn t size k r)) ∙ e));
+      without = λ r z. decides k (pos 0) (without callOn t size k (range-is k r) (rw (eq-eqb (k .given) 0 z)));
+      unsound = λ r gives. shows-15 t size k (claimOf k) (range-is k r) (claims k gives);
+      identity-zero = λ r gives. shows-9 t size k (claimOf k) (range-is k r) (claims k gives);
+      by-the-log = λ r gives y z.
+          let q = by-the-log t size k (claimOf k) (range-is k r) (claims k gives) y z in
+          record {
+            counts = λ e s. counted k _ (q ∙ rw e) s;
+            large = λ e s. too-large k _ (q ∙ rw e) s;
+            not-logged = λ e. q ∙ rw e;
+          };
     }
 
 -- ---- after a list of calls
@@ -282,7 +398,7 @@ module _ (es : List Element) (e : Element) where
   -- the call after the list
   last : answerAt callOn es′ (length es) ≡ callOn (tablesAfter callOn es) e .answer
   unfolding answerAt tablesBefore elementAt
-  last i = callOn (tablesAfter callOn (take-append-seam es (e ∷ []) i)) (getD-last es e (record { bytes = []; outputSize = 0 }) i) .answer
+  last i = callOn (tablesAfter callOn (take-append-seam es (e ∷ []) i)) (getD-last es e (given [] 0) i) .answer
 
   module _ (i : ℕ) (v : List ℕ) (tag : Tag) where
     further : Earlier (LogsAt callOn es i v tag) (length es) → Earlier (LogsAt callOn es′ i v tag) (length es)
@@ -316,7 +432,7 @@ module _ (es : List Element) (size : ℕ) (k : Tank) (g : Claim) (r : InRange k)
 
   check-at : CheckAt callOn (es′ es e) (length es) (g .probe) (g .tag) v
   unfolding checkOf
-  check-at = demands .two .checks (es′ es e) (length es) (g .probe) (g .tag) v (length (write (checkOf g))) record-is
+  check-at = demands .two .history .checks (es′ es e) (length es) (g .probe) (g .tag) v (length (write (checkOf g))) record-is
 
   says : (n : ℕ) → (b .code ≡ 0) × (b .number ≡ n) → (answerAt callOn (es′ es e) (length es) .code ≡ 0) × (answerAt callOn (es′ es e) (length es) .number ≡ n)
   says n s = (ap (λ (x : Answer). x .code) (last es e) ∙ s .0, ap (λ (x : Answer). x .number) (last es e) ∙ s .1)
@@ -410,19 +526,21 @@ module _ (es : List Element) (size : ℕ) (k : Tank) (g : Claim) (r : InRange k)
   answers-no w = let s = no-when .1 w in said-no t size k g r gives (s .0) (ap (λ (n : ℕ). eqb n 1) (s .1))
 
 pub desk-is-accurate : DeskIsAccurate callOn
-desk-is-accurate es size k r given =
+unfolding correctionInRange
+desk-is-accurate es size k range given =
     let g = claimOf k in
     let gives = claims k given in
+    let r = range-is k range in
+    let o = outcome es size k g r gives in
     record {
       decides = (
-        decides-when es size k g r gives (outcome es size k g r gives),
-        λ w. ap (λ (x : TankAnswer). x .code) (with-correction es size k g r gives (w .0, w .1) ∙ corrected-small (k .reading) (k .setpoint) (amount g) (w .2))
-            ∙ decided-code (k .reading +ℤ amount g -ℤ k .setpoint),
+        λ z. let w = decides-when es size k g r gives o z in (w .0, w .1, is-within _ _ _ (w .2)),
+        λ w. counted k _ (with-correction es size k g r gives (w .0, w .1)) (w .2) .code,
       );
-      decision = decision-is es size k g r gives (outcome es size k g r gives);
+      decision = λ z. decides k (S.amount k) (decision-is es size k g r gives o z);
       correction-out-of-range = (
-        large-when es size k g r gives (outcome es size k g r gives),
-        λ w. with-correction es size k g r gives (w .0, w .1) ∙ corrected-code (k .reading) (k .setpoint) (amount g) (w .2),
+        λ z. let w = large-when es size k g r gives o z in (w .0, w .1, not-within _ _ _ (w .2)),
+        λ w. too-large k _ (with-correction es size k g r gives (w .0, w .1)) (w .2),
       );
-      not-logged = (not-logged-when es size k g r gives (outcome es size k g r gives), answers-no es size k g r gives);
+      not-logged = (not-logged-when es size k g r gives o, answers-no es size k g r gives);
     }

@@ -22,7 +22,7 @@ use Rattle.ideal.specs.Box.{callOn}
 use Rattle.ideal.specs.State.{any}
 use Rattle.ideal.specs.Refusals.{First, here, later, none-holds, conditions, conditionsBy, onCallBy, callConditions, readerConditions, isMap, width, ends, cutField, oneOf, isLogRow}
 use Rattle.ideal.specs.OneCall.{countedNumber}
-use Rattle.ideal.proofs.OneCalls.{one-call}
+use Rattle.ideal.proofs.Demanded.{demands}
 use Rattle.desk.specs.declared.Claim.{Claim}
 use Rattle.desk.specs.Desk.{checkOf, checkElement}
 use Rattle.desk.proofs.Record.{reads}
@@ -56,7 +56,7 @@ module _ (t : Tables) (size : ℕ) (g : Claim) (p : g .probe < 2 ^ 64) (x : g .t
   rows = rw (reader-rows, reads g p x, call-rows)
 
   gives : (n : ℕ) → First n ((15, not ready) ∷ (unread ++ uncalled)) → a .code ≡ n
-  gives n f = one-call .numbers t (checkElement g size) n .1 (subst (First n) (sym rows) f)
+  gives n f = demands .one .numbers t (checkElement g size) n .1 (subst (First n) (sym rows) f)
 
   pub answers-15 : ready ≡ false → a .code ≡ 15
   answers-15 e = gives 15 (here (ap not e))
@@ -78,7 +78,7 @@ module _ (t : Tables) (size : ℕ) (g : Claim) (p : g .probe < 2 ^ 64) (x : g .t
 
   counts : a .code ≡ 0 → a .number ≡ cond row 1 0
   unfolding countedNumber checkOf checkElement
-  counts e = one-call .does t (checkElement g size) (checkOf g) (length (write (checkOf g))) (reads g p x) e .counted (cond row 1 0) refl
+  counts e = demands .two .call .does t (checkElement g size) (checkOf g) (length (write (checkOf g))) (reads g p x) e .counted (cond row 1 0) refl
 
   pub row-is-one : a .code ≡ 0 → row ≡ true → a .number ≡ 1
   row-is-one e h = counts e ∙ ap (λ (b : Bool). cond b 1 0) h

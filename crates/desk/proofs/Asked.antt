@@ -12,7 +12,7 @@ use Rattle.ideal.specs.declared.BoxRecord.{BoxRecord}
 use Rattle.ideal.specs.Tables.{Tables}
 use Rattle.ideal.specs.Box.{Result, callOn, outputAfter}
 use Rattle.ideal.specs.OneCall.{leaves, shows}
-use Rattle.ideal.proofs.OneCalls.{one-call}
+use Rattle.ideal.proofs.Demanded.{demands}
 use Rattle.state.specs.declared.LogTable.{LogTable}
 use Rattle.state.specs.declared.EscrowTable.{EscrowTable}
 use Rattle.state.specs.declared.Change.{Change}
@@ -34,11 +34,11 @@ module _ (t : Tables) (g : Claim) (size : ℕ) (p : g .probe < 2 ^ 64) (x : g .t
   accepted : answered .answer .code ≡ 0 → Unaltered t answered
   unfolding checkElement checkOf leaves shows
   accepted e =
-      let d = one-call .does t (checkElement g size) (checkOf g) (length (write (checkOf g))) (reads g p x) e in
+      let d = demands .two .call .does t (checkElement g size) (checkOf g) (length (write (checkOf g))) (reads g p x) e in
       record { tables = d .leaves; shown = d .shows }
 
   refused : (answered .answer .code ≡ 0 → ⊥) → Unaltered t answered
-  refused n = let r = one-call .alters-nothing t (checkElement g size) n in record { tables = r .tables; shown = r .shown }
+  refused n = let r = demands .one .alters-nothing t (checkElement g size) n in record { tables = r .tables; shown = r .shown }
 
   pub unaltered : Unaltered t answered
   unaltered = by-cases (eqb (answered .answer .code) 0) (λ e. accepted (eqb-true _ _ e)) (λ e. refused (eqb-false _ _ e))

@@ -4,9 +4,9 @@ use mathlib.Core.Path.{_≡_, refl, _∙_, ap}
 use mathlib.Core.Bool.{true, false}
 use mathlib.Core.List.{List, [], _∷_, _++_, map}
 use lib.ListN.{length, take, drop, getD}
-use lib.Dec.{leb}
-use borrow.Author.Tests.{eqb-true, leb-true}
-use Rattle.lists.proofs.Bools.{and-left, and-right}
+use lib.Dec.{eqb, leb}
+use borrow.Author.Tests.{eqb-true, eqb-false, leb-true}
+use Rattle.lists.proofs.Bools.{by-cases, and-left, and-right}
 use Rattle.ideal.specs.declared.BoxRecord.{BoxRecord}
 use Rattle.ideal.specs.declared.LogRow.{LogRow}
 use Rattle.ideal.specs.declared.EscrowRow.{EscrowRow}
@@ -20,7 +20,7 @@ use Rattle.desk.specs.declared.Tank.{Tank}
 use Rattle.desk.specs.declared.TankAnswer.{TankAnswer}
 use Rattle.desk.specs.declared.Tanks.{Tanks}
 use Rattle.desk.specs.declared.Answers.{Answers}
-use Rattle.desk.specs.Desk.{isList, deskOn, shiftOn}
+use Rattle.desk.specs.Desk.{isList, shiftCode, deskOn, shiftOn}
 use Rattle.desk.specs.Results.{deskResult, deskLeaves, listResult, listLeaves, shiftResult, shiftLeaves, blankTanks, padded, Left}
 
 -- what `desk_list` says, of copied rows or of lent ones
@@ -53,26 +53,34 @@ first-right k ks r a t′ t output′ output eks ea right = let p = parts eks ri
 
 -- ---- a list of 1 to 8
 
+abbrev pub Few : ℕ → Type 0
+Few n = (1 ≤ n) × (n ≤ 8)
+
+pub few : (n : ℕ) → isList n ≡ true → Few n
+unfolding isList
+few n h = (leb-true 1 n (and-left (leb 1 n) (leb n 8) h), leb-true n 8 (and-right (leb 1 n) (leb n 8) h))
+
+-- and as many answers
 pub record Whole (tanks answers : ℕ) : Type 0 where
-  pub least : 1 ≤ tanks
-  pub few : tanks ≤ 8
+  pub few : Few tanks
   pub as-many : answers ≡ tanks
 
-pub is-whole : (n m : ℕ) → isList n m ≡ true → Whole n m
-unfolding isList
-is-whole n m h =
-    let h₁ = and-right (leb 1 n) _ h in
-    record { least = leb-true 1 n (and-left (leb 1 n) _ h); few = leb-true n 8 (and-left (leb n 8) _ h₁); as-many = eqb-true m n (and-right (leb n 8) _ h₁) }
+pub is-whole : (n m : ℕ) → shiftCode n m ≡ 0 → Whole n m
+unfolding shiftCode
+is-whole n m z =
+    by-cases (eqb m n)
+    (λ e. by-cases (isList n) (λ h. record { few = few n h; as-many = eqb-true m n e }) (λ h. absurd (eqb-false 24 0 refl (rw (e, h) at z))))
+    (λ e. absurd (eqb-false 15 0 refl (rw e at z)))
 
 pub shift-right : (tanks : List Tank) (answers answers′ : List TankAnswer) (ks : Tanks) (r : Answers) (t′ t : Tables) (output′ output : List ℕ) → ks .rows ≡ padded tanks
-    → isList (length tanks) (length answers) ≡ true → answers′ ≡ take (length answers) (r .rows) → ListRight r t′ output′ t output ks
+    → shiftCode (length tanks) (length answers) ≡ 0 → answers′ ≡ take (length answers) (r .rows) → ListRight r t′ output′ t output ks
     → shiftResult 0 answers′ t′ output′ ≡ shiftLeaves callOn t output tanks answers
 unfolding shiftOn padded
 shift-right tanks answers answers′ ks r t′ t output′ output eks whole ea right =
     let p = parts eks right in
     rw (whole, ea, p .0, is-whole (length tanks) (length answers) whole .as-many, front (deskOn callOn t (length output)) tanks (drop (length tanks) blankTanks), p .1 .0, p .1 .1)
 
-pub shift-refused : (tanks : List Tank) (answers : List TankAnswer) (t : Tables) (output : List ℕ) → isList (length tanks) (length answers) ≡ false
-    → shiftResult 24 answers t output ≡ shiftLeaves callOn t output tanks answers
+pub shift-refused : (code : ℕ) (tanks : List Tank) (answers : List TankAnswer) (t : Tables) (output : List ℕ) → code ≡ shiftCode (length tanks) (length answers) → eqb code 0 ≡ false
+    → shiftResult code answers t output ≡ shiftLeaves callOn t output tanks answers
 unfolding shiftOn
-shift-refused tanks answers t output h = rw h
+shift-refused code tanks answers t output e refused = rw (← e, refused)

@@ -17,7 +17,7 @@ use Rattle.ideal.specs.Soundness.{pass, sizesRight, sound}
 use Rattle.ideal.specs.Refusals.{conditionsBy, here, numberAt}
 use Rattle.ideal.specs.Box.{Element, callOn}
 use Rattle.ideal.proofs.Demanded.{demands}
-use Rattle.caif.specs.Counted.{rowsLost}
+use Rattle.desk.specs.Counted.{rowsLost}
 use Rattle.desk.specs.declared.Tank.{Tank}
 use Rattle.desk.specs.declared.Claim.{Claim}
 use Rattle.desk.specs.declared.Checked.{Checked}

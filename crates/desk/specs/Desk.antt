@@ -7,7 +7,7 @@ use lib.Dec.{eqb, leb}
 use Rattle.record.specs.Call.{Call, check}
 use Rattle.record.specs.Write.{write}
 use Rattle.ideal.specs.Tables.{Tables}
-use Rattle.ideal.specs.Box.{Element, Result}
+use Rattle.ideal.specs.Box.{Element, given, Result}
 use Rattle.desk.specs.declared.Tank.{Tank}
 use Rattle.desk.specs.declared.Claim.{Claim}
 use Rattle.desk.specs.declared.Checked.{Checked}
@@ -20,16 +20,20 @@ checkOf g = check (g .probe) (g .tag) (g .low ∷ g .high ∷ [])
 
 -- its record, as the box's writer writes it, with the size of the output buffer lent
 unfoldable pub checkElement : Claim → (outputSize : ℕ) → Element
-checkElement g size = record { bytes = write (checkOf g); outputSize = size }
+checkElement g size = given (write (checkOf g)) size
 
 -- the whole list's answer, and each tank's
 pub record Answered : Type 0 where
   pub code : ℕ
   pub answers : List TankAnswer
 
--- 1 to 8 tanks, and as many answers
-unfoldable pub isList : (tanks answers : ℕ) → Bool
-isList tanks answers = leb 1 tanks && (leb tanks 8 && eqb answers tanks)
+-- 1 to 8 tanks
+unfoldable pub isList : (tanks : ℕ) → Bool
+isList tanks = leb 1 tanks && leb tanks 8
+
+-- 15 where the lent answers are not as many as the tanks; else 24 where the list is empty or longer
+unfoldable pub shiftCode : (tanks answers : ℕ) → ℕ
+shiftCode tanks answers = cond (eqb answers tanks) (cond (isList tanks) 0 24) 15
 
 module _ (box : Tables → Element → Result) (t : Tables) (outputSize : ℕ) where
   -- what the box answers to the check
@@ -45,5 +49,5 @@ module _ (box : Tables → Element → Result) (t : Tables) (outputSize : ℕ) w
   -- a list, with what the answers' slice holds before: refused whole it stays so
   unfoldable pub shiftOn : List Tank → List TankAnswer → Answered
   shiftOn tanks answers =
-      cond (isList (length tanks) (length answers)) (record { code = 0; answers = map deskOn tanks })
-      (record { code = 24; answers = answers })
+      let code = shiftCode (length tanks) (length answers) in
+      record { code = code; answers = cond (eqb code 0) (map deskOn tanks) answers }

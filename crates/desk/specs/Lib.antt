@@ -1,3 +1,4 @@
+pub mod Counted
 pub mod Decision
 pub mod Desk
 pub mod Results

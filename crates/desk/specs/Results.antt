@@ -8,7 +8,7 @@ use lib.IntN.{pos}
 use Rattle.lists.specs.Lists.{any}
 use Rattle.ideal.specs.Tables.{Tables}
 use Rattle.ideal.specs.Box.{Element, Result}
-use Rattle.caif.specs.Counted.{rowsLost}
+use Rattle.desk.specs.Counted.{rowsLost}
 use Rattle.desk.specs.declared.Tank.{Tank}
 use Rattle.desk.specs.declared.TankAnswer.{TankAnswer}
 use Rattle.desk.specs.declared.Checked.{Checked}

@@ -1,7 +1,7 @@
 // A list by value, over the rows that a host lends.
 ghost use mathlib.Core.Path.{_≡_};
 ghost use Rattle.ideal.specs.Box.{callOn};
-ghost use Rattle.caif.specs.Counted.{rowsLost};
+ghost use Rattle.desk.specs.Counted.{rowsLost};
 ghost use Rattle.caif.specs.Lent.{lentTables};
 ghost use Rattle.desk.specs.Results.{isUnasked, listResult, listLeaves};
 use crate::Answers;

@@ -18,8 +18,8 @@ use lending::copy_tanks;
 use lending::store_answers;
 use lent::lent_list;
 use list::first_of;
-use list::is_list;
 use list::list_of;
+use list::shift_code;
 
 // A tank, as a host lends it. Temperatures are in hundredths of a degree Celsius. Where given is 0 there is no correction,
 // and probe, tag, low and high are not looked at; low and high are the correction's two bytes.
@@ -117,7 +117,7 @@ pub extern "C" fn caif_desk(
     first_of(answers)
 }
 
-// A list of tanks, with as many answers: 0, or 24 where it is refused whole.
+// A list of tanks, with as many answers: 0, or the number with which it is refused whole.
 #[no_mangle]
 pub extern "C" fn caif_shift(
     tanks: &[Tank],
@@ -137,8 +137,9 @@ pub extern "C" fn caif_shift(
         (now (output .entry)) (now (tanks .entry)) (now (answers .entry))
         ⌝ }
 {
-    if !is_list(tanks.len(), answers.len()) {
-        return 24;
+    let code = shift_code(tanks.len(), answers.len());
+    if code != 0 {
+        return code;
     }
     let list = copy_tanks(tanks);
     let found = lent_list(

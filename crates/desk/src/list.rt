@@ -7,7 +7,7 @@ ghost use Rattle.lists.specs.Lists.{any};
 ghost use Rattle.ideal.specs.Box.{callOn};
 ghost use Rattle.soundness.specs.Parts.{tablesOf};
 ghost use Rattle.desk.specs.Decision.{deskBy};
-ghost use Rattle.desk.specs.Desk.{isList};
+ghost use Rattle.desk.specs.Desk.{isList, shiftCode};
 ghost use Rattle.desk.specs.Results.{deskResult, deskLeaves, listResult, listLeaves, blankTanks, noAnswer, noAnswers, needsBox, refusedAll};
 use crate::Answers;
 use crate::Checked;
@@ -24,17 +24,27 @@ use ideal::BoxRecord;
 use state::EscrowTable;
 use state::LogTable;
 
-// Whether a list has 1 to 8 tanks, and as many answers.
-pub fn is_list(tanks: usize, answers: usize) -> bool
-    ensures { λ r. ⌜ r ≡ isList tanks answers ⌝ }
+// Whether a list has 1 to 8 tanks.
+fn is_list(tanks: usize) -> bool
+    ensures { λ r. ⌜ r ≡ isList tanks ⌝ }
 {
     if tanks < 1 {
         return false;
     }
-    if tanks > 8 {
-        return false;
+    tanks <= 8
+}
+
+// The code of a whole list, from the counts of its tanks and of the lent answers.
+pub fn shift_code(tanks: usize, answers: usize) -> u8
+    ensures { λ r. ⌜ r ≡ shiftCode tanks answers ⌝ }
+{
+    if answers != tanks {
+        return 15;
     }
-    answers == tanks
+    if !is_list(tanks) {
+        return 24;
+    }
+    0
 }
 
 // A list of one.

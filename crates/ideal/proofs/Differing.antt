@@ -1,5 +1,5 @@
 -- Demand 3's premises are met by two lists that differ.
-use Prim.Native.Nat.{ℕ, zero, suc, _+_, _≤_, _<_}
+use Prim.Native.Nat.{ℕ, zero, suc, _+_, _*_, _≤_, _<_}
 use mathlib.Core.Path.{_≡_, refl, sym, ap, _∙_, subst, subst₂}
 use mathlib.Core.Bool.{Bool, true, false}
 use mathlib.Core.List.{List, [], _∷_, _++_, map, append-nil}
@@ -16,7 +16,7 @@ use Rattle.ideal.specs.Tables.{boxRecord, tables, freshTables}
 use Rattle.ideal.specs.Box.{Element, laid, callOn, elementAt, tablesFrom, tablesAfter, tablesBefore, answerAt}
 use Rattle.ideal.specs.Refusals.{ownBytes}
 use Rattle.ideal.specs.Secrecy.{inside, groupRuns, AlikeAt, same, other-bytes, PremiseAt}
-use Rattle.ideal.specs.Witness.{group, calls, element, elements, PremisesCanBeMet}
+use Rattle.ideal.specs.Witness.{group, calls, element, elements, Differing, PremisesCanBeMet}
 use Rattle.ideal.specs.Valid.{Valid}
 use Rattle.ideal.proofs.Laid.{stepElement, fresh-tables, call-is}
 use Rattle.ideal.proofs.Kept.{valid-fresh, valid-effect}
@@ -44,7 +44,7 @@ module _ {s : State} {c : Call} (v : Valid s) (r : read (write c) ≡ whole c (l
   unfolding element stepElement stepOnBy readingBy stepBy settle
   accepted-is = call-is s (element c) v ∙ rw (r, p)
 
-  next-tables : callOn (tables s) (element c) .tables ≡ tables (effect s c)
+  pub next-tables : callOn (tables s) (element c) .tables ≡ tables (effect s c)
   unfolding laid accepted
   next-tables = ap (λ x. x .tables) accepted-is
 
@@ -161,6 +161,7 @@ alike-at (other-call p o v w g n) r r′ =
       reads₁ = r;
       reads₂ = r′ ∙ ap (whole (heapWrite p o w)) (sym (same-used p o v w n));
       outputSize = refl;
+      profile = refl;
     })
 
 -- with elements behind them
@@ -175,61 +176,68 @@ indexed es fs k v w (call r p a) (call r′ p′ b) (step {cs = cs} {ds = ds} l 
     (subst₂ (λ x y. Indexed callOn group x y (map element cs ++ es) (map element ds ++ fs)) (sym (next-tables v r p))
     (sym (next-tables w r′ p′)) (indexed es fs next (valid-effect _ _ v p) (valid-effect _ _ w p′) a b rest more))
 
+-- ---- a list with a byte left open
+
+pub record Open (calls : ℕ → List Call) (place offset : ℕ) : Type 0 where
+  pub accepts : (a : ℕ) → Accepted fresh (calls a)
+  pub steps : (a b : ℕ) → Steps fresh fresh (calls a) (calls b)
+  pub heap : (a : ℕ) → getD (heapAt (after fresh (calls a)) place) offset 0 ≡ a
+
+module _ {calls : ℕ → List Call} {place offset : ℕ} (c : Open calls place offset) (p : place < 16) (o : offset < 256) where
+  secret : (b : ℕ) → getD (tablesAfter callOn (map element (calls b)) .heaps) (256 * place + offset) 0 ≡ b
+  unfolding tablesAfter
+  secret b =
+      let a = c .accepts b in
+      ap (λ t. getD (t .heaps) (256 * place + offset) 0)
+      (ap (λ t. tablesFrom callOn t (map element (calls b))) fresh-tables ∙ tables-end valid-fresh a)
+      ∙ byte-is (after fresh (calls b)) (all-valid valid-fresh a) place offset p o
+      ∙ c .heap b
+
+  all-accepted : (b k : ℕ) → k < length (map element (calls b)) → answerAt callOn (map element (calls b)) k .code ≡ 0
+  unfolding tablesBefore tablesAfter answerAt
+  all-accepted b k l =
+      ap (λ t. callOn (tablesFrom callOn t (take k (map element (calls b)))) (elementAt (map element (calls b)) k) .answer .code) fresh-tables
+      ∙ codes valid-fresh (c .accepts b) k l
+
+  indexed-elements : (a b : ℕ) → Indexed callOn group freshTables freshTables (map element (calls a)) (map element (calls b))
+  indexed-elements a b =
+      rw fresh-tables
+      (subst₂ (λ x y. Indexed callOn group (tables fresh) (tables fresh) x y) (append-nil _) (append-nil _)
+      (indexed [] [] (same-state (held group) fresh) valid-fresh valid-fresh (c .accepts a) (c .accepts b)
+      (c .steps a b) (ended callOn group)))
+
+  pub differing : Differing callOn (map element (calls 66)) (map element (calls 67)) (256 * place + offset)
+  unfolding tablesBefore tablesAfter
+  differing =
+      let i = indexed-elements 66 67 in
+      record {
+        alike = record { long = i .long; alike = i .alike };
+        premise = i .premise;
+        accepted₁ = all-accepted 66;
+        accepted₂ = all-accepted 67;
+        secret₁ = secret 66;
+        secret₂ = secret 67;
+      }
+
 -- ---- the witness
 
-record Computed (a b : ℕ) : Type 0 where
-  accepts : Accepted fresh (calls a)
-  steps : Steps fresh fresh (calls a) (calls b)
-  heap : getD (heapAt (after fresh (calls a)) 1) 0 0 ≡ a
-
 -- on the states, with the bytes left open
-computed : (a b : ℕ) → Computed a b
+computed : Open calls 1 0
 unfolding after calls group fresh cleared ownPart any find bytesUsed full isNamed isEscrowed found absent valueIn hasHandle handleOf next freeFrom freeHandle spent givenUp paired firstHolding idle vacant beyond tests refusal protected move apply effect inside stands kinds among kindOf fromLittle field contents bytesField fields readFields readKind afterMap read only recordOf filled recordIn write little
-computed a b =
+computed =
     record {
-      accepts =
+      accepts = λ a.
           call refl refl (call refl refl (call refl refl (call refl refl (call refl refl (call refl refl (call refl refl
           (call refl refl (call refl refl (call refl refl (call refl refl (call refl refl (call refl refl (call refl refl
           (call refl refl (call refl refl (call refl refl (call refl refl (call refl refl none))))))))))))))))));
-      steps =
+      steps = λ a b.
           alike tt (alike tt (alike tt (alike tt (alike tt (alike refl (alike refl
           (step (other-call 0 1 (a ∷ []) (b ∷ []) refl refl) tt
           (alike tt (alike tt (alike tt (alike tt (alike tt (alike tt (alike tt (alike tt (alike tt (alike tt (alike tt
           end))))))))))))))))));
-      heap = refl;
+      heap = λ a. refl;
     }
-
-secret : (b : ℕ) → getD (tablesAfter callOn (elements b) .heaps) 256 0 ≡ b
-unfolding elements tablesAfter
-secret b =
-    let a = computed b b .accepts in
-    ap (λ t. getD (t .heaps) 256 0) (ap (λ t. tablesFrom callOn t (elements b)) fresh-tables ∙ tables-end valid-fresh a)
-    ∙ byte-is (after fresh (calls b)) (all-valid valid-fresh a) 1 0 (omega arith) (omega arith)
-    ∙ computed b b .heap
-
-all-accepted : (b k : ℕ) → k < length (elements b) → answerAt callOn (elements b) k .code ≡ 0
-unfolding elements tablesBefore tablesAfter answerAt
-all-accepted b k l =
-    ap (λ t. callOn (tablesFrom callOn t (take k (elements b))) (elementAt (elements b) k) .answer .code) fresh-tables
-    ∙ codes valid-fresh (computed b b .accepts) k l
-
-indexed-elements : (a b : ℕ) → Indexed callOn group freshTables freshTables (elements a) (elements b)
-unfolding elements
-indexed-elements a b =
-    rw fresh-tables
-    (subst₂ (λ x y. Indexed callOn group (tables fresh) (tables fresh) x y) (append-nil _) (append-nil _)
-    (indexed [] [] (same-state (held group) fresh) valid-fresh valid-fresh (computed a b .accepts) (computed b a .accepts)
-    (computed a b .steps) (ended callOn group)))
 
 pub premises-can-be-met : PremisesCanBeMet callOn
-unfolding tablesBefore tablesAfter
-premises-can-be-met =
-    let i = indexed-elements 66 67 in
-    record {
-      alike = record { long = i .long; alike = i .alike };
-      premise = i .premise;
-      accepted₁ = all-accepted 66;
-      accepted₂ = all-accepted 67;
-      secret₁ = secret 66;
-      secret₂ = secret 67;
-    }
+unfolding elements
+premises-can-be-met = differing computed (omega arith) (omega arith)

@@ -1,6 +1,6 @@
--- The first 65 draws from any draw on differ: already the 7 lowest bits of the first 128 do. Which of the draws from 0 on has
--- these bits is a polynomial modulo 128, and each step raises it by one: a computed test. Assumes nothing.
-use Prim.Native.Nat.{ℕ, zero, suc, _+_, _*_, _/_, _%_, _≤_, _<_}
+-- The next draw; and the first 65 draws from any draw on differ: already the 7 lowest bits of the first 128 do. Which of the
+-- draws from 0 on has these bits is a polynomial modulo 128, and each step raises it by one: a computed test. Assumes nothing.
+use Prim.Native.Nat.{ℕ, zero, suc, _+_, _*_, _/_, _%_, _^_, _≤_, _<_}
 use mathlib.Core.Path.{_≡_, refl, sym, ap, _∙_}
 use mathlib.Core.Bool.{Bool, true, _&&_}
 use native.Mathlib.Omega.{arith}
@@ -10,8 +10,15 @@ use lib.Dec.{eqb}
 use borrow.Author.Tests.{eqb-true}
 use Rattle.ideal.specs.Step.{next}
 use Rattle.ideal.specs.Accuracy.{iterate}
-use Rattle.ideal.specs.Draws.{DrawsDiffer}
+use Rattle.ideal.specs.Draws.{Follows, NextDraw, DrawsDiffer}
 use Rattle.lists.proofs.Bools.{and-left, and-right}
+
+pub next-draw : NextDraw
+unfolding next
+next-draw draw n = (
+  λ q. record { small = omega arith; times = (25214903917 * draw + 11) / 2 ^ 48; away = omega arith },
+  λ f. let l = f .small in let e = f .away in omega arith,
+)
 
 -- ---- a rank that each step raises by one, modulo m, tells the first m apart
 
@@ -46,11 +53,11 @@ raised : ℕ → Bool
 raised y = eqb (rank ((109 * y + 11) % 128) % 128) ((rank y + 1) % 128)
 
 -- the test at every number below n, computed
-below : ℕ → (ℕ → Bool) → Bool
+unfoldable pub below : ℕ → (ℕ → Bool) → Bool
 below zero t = true
 below (suc n) t = t zero && below n (λ k. t (suc k))
 
-at-below : (n : ℕ) (t : ℕ → Bool) → below n t ≡ true → (i : ℕ) → i < n → t i ≡ true
+pub at-below : (n : ℕ) (t : ℕ → Bool) → below n t ≡ true → (i : ℕ) → i < n → t i ≡ true
 unfolding below
 at-below zero t e i l = absurd (omega arith)
 at-below (suc n) t e zero l = and-left (t zero) _ e

@@ -1,6 +1,8 @@
--- A box that keeps what is promised of one call is the definition, on any tables. Assumes nothing.
+-- A box that meets demands 1 and 2 is the definition, on any tables, and so keeps demand 3. Assumes nothing.
 use Prim.Native.Nat.{ℕ}
-use mathlib.Core.Path.{_≡_, refl, sym, ap, _∙_}
+use mathlib.Core.Path.{_≡_, refl, sym, ap, _∙_, subst}
+use mathlib.Core.Bool.{Bool}
+use mathlib.Core.List.{List}
 use mathlib.Core.Option.{some}
 use lib.Dec.{eqb}
 use borrow.Author.Tests.{eqb-true, eqb-false}
@@ -9,40 +11,46 @@ use Rattle.record.specs.Read.{whole, read}
 use Rattle.ideal.specs.Step.{number}
 use Rattle.ideal.specs.Tables.{Tables}
 use Rattle.ideal.specs.Box.{Element, Result, callOn}
+use Rattle.ideal.specs.Refusals.{EachNumberBy, RefusalsAlterNothing}
 use Rattle.ideal.specs.Answers.{plainNumber, Answered}
-use Rattle.ideal.specs.OneCall.{leaves, countedNumber, shows, Done, OneCall, OneCallFixed}
+use Rattle.ideal.specs.OneCall.{countedNumber, Done}
+use Rattle.ideal.specs.Secrecy.{Secrecy}
+use Rattle.ideal.specs.Demands.{EachCallBy}
+use Rattle.ideal.specs.Fixed.{SameAccepted, FixedByTwo, Fixed, SecrecyFollows}
 use Rattle.lists.proofs.Bools.{by-cases}
-use Rattle.ideal.proofs.Numbers.{each-number, refusals-alter-nothing}
-use Rattle.ideal.proofs.Accepts.{accepted-answers}
-use Rattle.ideal.proofs.FirstFree.{handle-is-first-free}
-use Rattle.ideal.proofs.OneAnswer.{one-free, same-answer, same-result, same-refusal, accepted-reads}
-use Rattle.ideal.proofs.OneCalls.{does}
+use Rattle.ideal.proofs.OneAnswer.{Whole, one-free, same-answer, same-result, same-refusal, accepted-reads}
+use Rattle.ideal.proofs.Secret.{secrecy}
+use Rattle.ideal.proofs.Demanded.{demands}
 
-module _ (box : Tables → Element → Result) (one : OneCall box) (t : Tables) (e : Element) where
+-- a table fixes the code
+pub same-code : {table : Tables → Element → List (ℕ × Bool)} (a b : Tables → Element → Result) → EachNumberBy a table → EachNumberBy b table
+    → (t : Tables) (e : Element) → a t e .answer .code ≡ b t e .answer .code
+same-code a b x y t e = let n = b t e .answer .code in x t e n .1 (y t e n .0 refl)
+
+-- two boxes that keep what is demanded of one call, by one table
+module _ {table : Tables → Element → List (ℕ × Bool)} {model : Tables → Element → Result} (that : EachCallBy table model)
+    (box : Tables → Element → Result) (this : EachCallBy table box) (t : Tables) (e : Element) where
   abbrev r : Result
   r = box t e
 
   abbrev s : Result
-  s = callOn t e
+  s = model t e
 
   code-is : r .answer .code ≡ s .answer .code
-  code-is = let n = s .answer .code in one .numbers t e n .1 (each-number t e n .0 refl)
-
-  when-refused : (s .answer .code ≡ 0 → ⊥) → r ≡ s
-  when-refused n = same-refusal code-is (one .alters-nothing t e (λ z. n (sym code-is ∙ z))) (refusals-alter-nothing t e n)
+  code-is = same-code box model (this .refuses-no-more) (that .refuses-no-more) t e
 
   module _ (c : Call) (used : ℕ) (reads : read (e .bytes) ≡ whole c used) (z : s .answer .code ≡ 0) where
     answered-r : Answered t c used (r .answer)
-    answered-r = one .answers t e c used reads (code-is ∙ z)
+    answered-r = this .answers t e c used reads (code-is ∙ z)
 
     answered-s : Answered t c used (s .answer)
-    answered-s = accepted-answers t e c used reads z
+    answered-s = that .answers t e c used reads z
 
     done-r : Done t c r
-    done-r = one .does t e c used reads (code-is ∙ z)
+    done-r = this .does t e c used reads (code-is ∙ z)
 
     done-s : Done t c s
-    done-s = does t e c used reads z
+    done-s = that .does t e c used reads z
 
     plain : (n : ℕ) → plainNumber t c ≡ some n → r .answer .number ≡ s .answer .number
     plain n q = answered-r .number n q ∙ sym (answered-s .number n q)
@@ -67,21 +75,42 @@ module _ (box : Tables → Element → Result) (one : OneCall box) (t : Tables) 
   number-is (check i g v) used q z = by-count _ used q z _ refl
   number-is (protect i o n d) used q z =
       ap (λ a. a .0)
-      (one-free t n (d .0) _ _ (one .handles-free t e i o n d used q (code-is ∙ z)) (handle-is-first-free t e i o n d used q z))
+      (one-free t n (d .0) _ _ (this .handles-free t e i o n d used q (code-is ∙ z)) (that .handles-free t e i o n d used q z))
   number-is (retrieve i o a) used q z = by-count _ used q z _ refl
   number-is report used q z = by-count _ used q z _ refl
   number-is (handOver p) used q z = plain _ used q z _ refl
   number-is (chain w i x v) used q z = by-count _ used q z _ refl
   number-is (release i h) used q z = plain _ used q z _ refl
 
-  fixed : r ≡ s
-  fixed =
-      by-cases (eqb (s .answer .code) 0)
-      (λ y.
-      let z = eqb-true _ _ y in
-      let w = accepted-reads t e z in
-      when-accepted (w .call) (w .used) (w .reads) z (number-is (w .call) (w .used) (w .reads) z))
-      (λ y. when-refused (eqb-false _ _ y))
+  pub same-accepted : (s .answer .code ≡ 0 → Whole (e .bytes)) → SameAccepted r s
+  same-accepted reads =
+      record {
+        code = code-is;
+        accepted = λ z.
+            let w = reads z in
+            when-accepted (w .call) (w .used) (w .reads) z (number-is (w .call) (w .used) (w .reads) z);
+      }
 
-pub one-call-fixed : OneCallFixed
-one-call-fixed = fixed
+  -- and a refusal's number, bytes used and tables
+  pub same-call : (s .answer .code ≡ 0 → Whole (e .bytes)) → RefusalsAlterNothing box → RefusalsAlterNothing model → r ≡ s
+  same-call reads here there =
+      let h = same-accepted reads in
+      by-cases (eqb (s .answer .code) 0)
+      (λ y. h .accepted (eqb-true _ _ y))
+      (λ y.
+      let n = eqb-false _ _ y in
+      same-refusal (h .code) (here t e (λ z. n (sym (h .code) ∙ z))) (there t e n))
+
+-- ---- the full box
+
+pub fixed-by-two : FixedByTwo
+fixed-by-two box two t e = same-accepted (demands .two .call) box (two .call) t e (accepted-reads t e)
+
+pub fixed : Fixed
+fixed box one two t e =
+    same-call (demands .two .call) box (two .call) t e (accepted-reads t e) (one .alters-nothing) (demands .one .alters-nothing)
+
+pub secrecy-follows : SecrecyFollows
+secrecy-follows box one two =
+    let is : box ≡ callOn = λ i t e. fixed box one two t e i in
+    subst Secrecy (sym is) secrecy

@@ -1,8 +1,8 @@
--- A box that meets demands 1 and 2 runs from a fresh box as the definition does. By induction over the calls: the number of
--- each is fixed by its conditions, a refusal alters nothing, and an accepted call's answer and event are fixed by the tables
--- and the calls before it; what it leaves is then what the past says. Assumes nothing.
+-- A box that keeps what demand 2 says of history runs from a fresh box as the definition does. By induction over the calls:
+-- the number of each is fixed by its conditions, and an accepted call's answer and event are fixed by the tables and the calls
+-- before it; what a call leaves is then what the past says. Assumes nothing.
 use Prim.Native.Nat.{ℕ, zero, suc, _≤_, _<_}
-use mathlib.Core.Path.{_≡_, refl, sym, ap, _∙_, subst}
+use mathlib.Core.Path.{_≡_, refl, sym, ap, _∙_}
 use mathlib.Core.Bool.{false, cond}
 use mathlib.Core.List.{List, [], _∷_, _++_}
 use mathlib.Core.Option.{some}
@@ -18,24 +18,23 @@ use Rattle.record.specs.Call.{Call, create, exit, heapWrite, heapRead, sharedWr
 use Rattle.record.specs.Read.{Reading, refused, whole, read}
 use Rattle.record.specs.Write.{filled}
 use Rattle.ideal.specs.State.{Move, any}
-use Rattle.ideal.specs.Step.{Link, Answer, logged, number}
+use Rattle.ideal.specs.Step.{Answer, logged, number}
 use Rattle.ideal.specs.Tables.{Tables, freshTables}
-use Rattle.ideal.specs.Box.{Element, Result, callOn, elementAt, tablesFrom, answersFrom, tablesAfter, tablesBefore, answerAt}
-use Rattle.ideal.specs.Refusals.{callerIn, ownBytes, oneOf, numberAt}
-use Rattle.ideal.specs.Answers.{plainNumber, Answered}
+use Rattle.ideal.specs.Box.{Element, Result, callOn, elementAt, tablesFrom, tablesAfter, tablesBefore, answerAt}
+use Rattle.ideal.specs.Refusals.{callerIn, ownBytes, oneOf, numberAt, EachNumber, RefusalsAlterNothing}
+use Rattle.ideal.specs.Answers.{plainNumber, Answered, AcceptedAnswers}
 use Rattle.ideal.specs.History.{moveSeen, added, pastFrom, pastOf, Shows}
-use Rattle.ideal.specs.Accuracy.{Earlier, LogsAt, ProtectsAt, ReleasesAt, HeldBefore, HandsOut, Runs, LinkValue, Vouched, was-logged, was-escrowed, Custody}
-use Rattle.ideal.specs.Demands.{Demand1, Demand2}
-use Rattle.ideal.specs.Fixed.{FixedByTwo, Fixed}
+use Rattle.ideal.specs.Accuracy.{HandsOut, Runs, HandleIsFirstFree}
+use Rattle.ideal.specs.Demands.{SinceFresh}
+use Rattle.ideal.specs.Fixed.{FixedByHistory}
 use Rattle.lists.proofs.Bools.{by-cases}
+use Rattle.ideal.proofs.Befores.{Box, Alike, alike-back, same-calls, SameBefore, logged-too, held-too, custody-too}
 use Rattle.ideal.proofs.OneAnswer.{one-free, same-used, same-answer, accepted-reads}
 use Rattle.ideal.proofs.Runs.{stateBefore, accepted-at, number-at}
 use Rattle.ideal.proofs.Retrieves.{handed}
 use Rattle.ideal.proofs.Demanded.{demands}
+use Rattle.ideal.proofs.FixedCalls.{same-code}
 use Rattle.ideal.proofs.OnePast.{one-past}
-
-abbrev pub Box : Type 0
-Box = Tables → Element → Result
 
 -- ---- a run, one call more
 
@@ -51,12 +50,6 @@ module _ (box : Box) where
   past-more [] fs t past = refl
   past-more (e ∷ es) fs t past = past-more es fs (box t e .tables) (added t (box t e) (read (e .bytes)) past)
 
-  answers-more : (es fs : List Element) (t : Tables)
-      → answersFrom box t (es ++ fs) ≡ answersFrom box t es ++ answersFrom box (tablesFrom box t es) fs
-  unfolding tablesFrom answersFrom
-  answers-more [] fs t = refl
-  answers-more (e ∷ es) fs t = ap (λ l. box t e .answer ∷ l) (answers-more es fs (box t e .tables))
-
   module _ (es : List Element) (k : ℕ) (b : k < length es) where
     pub tables-next : tablesBefore box es (suc k) ≡ box (tablesBefore box es k) (elementAt es k) .tables
     unfolding tablesBefore tablesAfter tablesFrom elementAt
@@ -68,12 +61,6 @@ module _ (box : Box) where
     unfolding pastOf pastFrom tablesBefore tablesAfter elementAt
     past-next =
         ap (pastFrom box freshTables []) (take-suc es k _ b) ∙ past-more (take k es) (elementAt es k ∷ []) freshTables []
-
-    pub answers-next : answersFrom box freshTables (take (suc k) es)
-        ≡ answersFrom box freshTables (take k es) ++ (answerAt box es k ∷ [])
-    unfolding answersFrom answerAt tablesBefore tablesAfter elementAt
-    answers-next =
-        ap (answersFrom box freshTables) (take-suc es k _ b) ∙ answers-more (take k es) (elementAt es k ∷ []) freshTables
 
 -- ---- what the statements of one call fix
 
@@ -103,61 +90,10 @@ unfolding added
 refused-adds t r (refused code number) past h = refl
 refused-adds t r (whole c used) past h = rw (ne-eqb (r .answer .code) 0 h)
 
-accepted-adds : (t : Tables) (r : Result) (c : Call) (used : ℕ) (past : List Move) → r .answer .code ≡ 0
+pub accepted-adds : (t : Tables) (r : Result) (c : Call) (used : ℕ) (past : List Move) → r .answer .code ≡ 0
     → added t r (whole c used) past ≡ moveSeen t (r .tables) (r .answer .number) c ∷ past
 unfolding added
 accepted-adds t r c used past h = rw (eq-eqb (r .answer .code) 0 h)
-
--- ---- calls before the one at an index, of two boxes and two lists
-
--- the same code, and the same answer where it is accepted
-pub record Alike (x y : Answer) : Type 0 where
-  pub code : x .code ≡ y .code
-  pub accepted : y .code ≡ 0 → x ≡ y
-
-alike-back : {x y : Answer} → Alike x y → Alike y x
-alike-back h = record { code = sym (h .code); accepted = λ z. sym (h .accepted (sym (h .code) ∙ z)) }
-
-pub alike-same : {x y : Answer} → x ≡ y → Alike x y
-alike-same q = record { code = ap (λ x. x .code) q; accepted = λ z. q }
-
-module _ (a b : Box) (es fs : List Element) (j : ℕ) (e : elementAt es j ≡ elementAt fs j) (t : tablesBefore a es j ≡ tablesBefore b fs j)
-    (h : Alike (answerAt a es j) (answerAt b fs j)) where
-  pub logs-too : {i : ℕ} {v : List ℕ} {g : Tag} → LogsAt a es i v g j → LogsAt b fs i v g j
-  logs-too l =
-      record {
-        offset = l .offset;
-        size = l .size;
-        used = l .used;
-        reads = sym (ap (λ y. read (y .bytes)) e) ∙ l .reads;
-        accepts = sym (h .code) ∙ l .accepts;
-        by = sym (ap (λ y. callerIn y) t) ∙ l .by;
-        bytes = sym (ap (λ y. ownBytes y (l .offset) (l .size)) t) ∙ l .bytes;
-        gets = sym (ap (λ y. y .number) (h .accepted (sym (h .code) ∙ l .accepts))) ∙ l .gets;
-      }
-
-  pub protects-too : {i r : ℕ} {h : Handle} {v : List ℕ} → ProtectsAt a es i r h v j → ProtectsAt b fs i r h v j
-  protects-too p =
-      record {
-        offset = p .offset;
-        size = p .size;
-        draw = p .draw;
-        used = p .used;
-        reads = sym (ap (λ y. read (y .bytes)) e) ∙ p .reads;
-        accepts = sym (h .code) ∙ p .accepts;
-        by = sym (ap (λ y. callerIn y) t) ∙ p .by;
-        bytes = sym (ap (λ y. ownBytes y (p .offset) (p .size)) t) ∙ p .bytes;
-        gets = sym (ap (λ y. y .number) (h .accepted (sym (h .code) ∙ p .accepts))) ∙ p .gets;
-      }
-
-  pub releases-too : {i r : ℕ} {g : Handle} → ReleasesAt a es i r g j → ReleasesAt b fs i r g j
-  releases-too p =
-      record {
-        used = p .used;
-        reads = sym (ap (λ y. read (y .bytes)) e) ∙ p .reads;
-        accepts = sym (h .code) ∙ p .accepts;
-        by = sym (ap (λ y. callerIn y) t) ∙ p .by;
-      }
 
 -- ---- the induction
 
@@ -170,52 +106,16 @@ pub record SameTo (a b : Box) (es : List Element) (k : ℕ) : Type 0 where
 back : {a b : Box} {es : List Element} {k : ℕ} → SameTo a b es k → SameTo b a es k
 back h = record { tables = λ j l. sym (h .tables j l); answers = λ j l. alike-back (h .answers j l); past = sym (h .past) }
 
-module _ {a b : Box} {es : List Element} {k : ℕ} (h : SameTo a b es k) where
-  logged-too : {i : ℕ} {v : List ℕ} {g : Tag} → Earlier (LogsAt a es i v g) k → Earlier (LogsAt b es i v g) k
-  logged-too x =
-      let j = x .index in
-      let l = x .before in
-      record { index = j; before = l; there = logs-too a b es es j refl (h .tables j (omega arith)) (h .answers j l) (x .there) }
+calls-before : {a b : Box} {es : List Element} {k : ℕ} → SameTo a b es k → SameBefore a b es es k
+calls-before {a} {b} {es} {k} h =
+    let w = back h in
+    record {
+      caller = ap (λ y. callerIn y) (h .tables k (omega arith));
+      there = λ j l. same-calls a b es es j refl (h .tables j (omega arith)) (h .answers j l);
+      back = λ j l. same-calls b a es es j refl (w .tables j (omega arith)) (w .answers j l);
+    }
 
-  held-too : {i : ℕ} {g : Handle} {v : List ℕ} → HeldBefore a es k i g v → HeldBefore b es k i g v
-  held-too {i} {g} {v} x =
-      let j = x .index in
-      let l = x .before in
-      let p = protects-too a b es es j refl (h .tables j (omega arith)) (h .answers j l) (x .there) in
-      let q = ap (λ y. callerIn y) (h .tables k (omega arith)) in
-      let w = back h in
-      record {
-        index = j;
-        before = l;
-        there = subst (λ r. ProtectsAt b es i r g v j) q p;
-        since = λ m n o r.
-            x .since m n o
-            (subst (λ c. ReleasesAt a es i c g m) (sym q)
-            (releases-too b a es es m refl (w .tables m (omega arith)) (w .answers m o) r));
-      }
-
-  vouched-too : {g : LinkValue} → Vouched a es k g → Vouched b es k g
-  vouched-too (was-logged w x) = was-logged w (logged-too x)
-  vouched-too (was-escrowed w x) = was-escrowed w (held-too x)
-
-  custody-too : {first : Link} {v : List ℕ} {n : ℕ} → Custody a es k first v n → Custody b es k first v n
-  custody-too c =
-      record {
-        links = c .links;
-        count = c .count;
-        least = c .least;
-        most = c .most;
-        begins = c .begins;
-        leads = c .leads;
-        ends = c .ends;
-        vouched = λ j l. vouched-too (c .vouched j l);
-        bytes = c .bytes;
-      }
-
-module _ (box : Box) (two : Demand2 box) where
-  pub same-code : (t : Tables) (e : Element) → box t e .answer .code ≡ callOn t e .answer .code
-  same-code t e = let n = callOn t e .answer .code in two .refuses-no-more t e n .1 (demands .two .refuses-no-more t e n .0 refl)
-
+module _ (box : Box) (numbers : EachNumber box) (answers : AcceptedAnswers box) (free : HandleIsFirstFree box) (history : SinceFresh box) where
   module _ (es : List Element) (k : ℕ) (b : k < length es) (h : SameTo box callOn es k) where
     abbrev e : Element
     e = elementAt es k
@@ -233,13 +133,13 @@ module _ (box : Box) (two : Demand2 box) where
 
     code-is : answerAt box es k .code ≡ answerAt callOn es k .code
     unfolding answerAt
-    code-is = ap (λ a. a .code) answer-is ∙ same-code t e
+    code-is = ap (λ a. a .code) answer-is ∙ same-code box callOn numbers (demands .two .call .refuses-no-more) t e
 
     -- what is left is as the past says, so the same where the pasts are
     tables-too : pastOf box (take (suc k) es) ≡ pastOf callOn (take (suc k) es)
         → tablesBefore box es (suc k) ≡ tablesBefore callOn es (suc k)
     unfolding tablesBefore
-    tables-too p = one-past (two .holds (take (suc k) es)) (rw p (demands .two .holds (take (suc k) es)))
+    tables-too p = one-past (history .holds (take (suc k) es)) (rw p (demands .two .history .holds (take (suc k) es)))
 
     further : Alike (answerAt box es k) (answerAt callOn es k) → pastOf box (take (suc k) es) ≡ pastOf callOn (take (suc k) es)
         → SameTo box callOn es (suc k)
@@ -280,11 +180,11 @@ module _ (box : Box) (two : Demand2 box) where
 
       answered-r : Answered t c used r
       unfolding answerAt
-      answered-r = rw (← before) (two .answers (tablesBefore box es k) e c used reads takes-it)
+      answered-r = rw (← before) (answers (tablesBefore box es k) e c used reads takes-it)
 
       answered-s : Answered t c used s
       unfolding answerAt
-      answered-s = demands .two .answers t e c used reads z
+      answered-s = demands .two .call .answers t e c used reads z
 
       plain : (n : ℕ) → plainNumber t c ≡ some n → r .number ≡ s .number
       plain n q = answered-r .number n q ∙ sym (answered-s .number n q)
@@ -307,32 +207,32 @@ module _ (box : Box) (two : Demand2 box) where
         let there = logged i g v (stateBefore es k .log) in
         let n : answerAt callOn es k .number ≡ cond there 1 0 =
         number-at es k (check i g v) used (accepted-at es k (check i g v) used q z) in
-        let c = two .checks es k i g v used q in
-        let d = demands .two .checks es k i g v used q in
+        let c = history .checks es k i g v used q in
+        let d = demands .two .history .checks es k i g v used q in
         by-cases there
         (λ y.
         let m : answerAt callOn es k .number ≡ 1 = rw y at n in
         let x = d .yes .0 (z, m) in
-        c .yes .1 (x .0, logged-too (back h) (x .1)) .1 ∙ sym m)
+        c .yes .1 (x .0, logged-too (calls-before (back h)) (x .1)) .1 ∙ sym m)
         (λ y.
         let m : answerAt callOn es k .number ≡ 0 = rw y at n in
         let x = d .no .0 (z, m) in
-        c .no .1 (x .0, x .1, λ l. x .2 (logged-too h l)) .1 ∙ sym m)
+        c .no .1 (x .0, x .1, λ l. x .2 (logged-too (calls-before h) l)) .1 ∙ sym m)
 
     chain-is : (w i x : ℕ) (v : List ℕ) (used : ℕ) → read (e .bytes) ≡ whole (chain w i x v) used
         → answerAt callOn es k .code ≡ 0 → answerAt box es k .number ≡ answerAt callOn es k .number
     chain-is w i x v used q z =
         let n = answerAt callOn es k .number in
-        let y = demands .two .chains es k w i x v used q n .0 (z, refl) in
+        let y = demands .two .history .chains es k w i x v used q n .0 (z, refl) in
         let runs : Runs box es k = λ r. y .1 (ap (λ u. u .box .running) (sym before) ∙ r) in
-        two .chains es k w i x v used q n .1 (y .0, runs, custody-too (back h) (y .2)) .1
+        history .chains es k w i x v used q n .1 (y .0, runs, custody-too (calls-before (back h)) (y .2)) .1
 
     handle-is : (i o n : ℕ) (d : Draw) (used : ℕ) → read (e .bytes) ≡ whole (protect i o n d) used
         → answerAt callOn es k .code ≡ 0 → answerAt box es k .number ≡ answerAt callOn es k .number
     unfolding answerAt
     handle-is i o n d used q z =
-        let y = two .handles-free (tablesBefore box es k) e i o n d used q (code-is ∙ z) in
-        let x = demands .two .handles-free t e i o n d used q z in
+        let y = free (tablesBefore box es k) e i o n d used q (code-is ∙ z) in
+        let x = demands .two .call .handles-free t e i o n d used q z in
         ap (λ a. a .0) (one-free t n (d .0) _ _ (rw (← before) y) x)
 
     -- what an accepted retrieve hands out
@@ -346,14 +246,14 @@ module _ (box : Box) (two : Demand2 box) where
     both i o a used q z =
         let x = handed es k i o a used q z in
         let v = x .value in
-        let y = demands .two .retrieves es k i o a used q .hands-out v .0 (x .is) in
-        record { value = v; r = two .retrieves es k i o a used q .hands-out v .1 (y .0, held-too (back h) (y .1), y .2); s = x .is }
+        let y = demands .two .history .retrieves es k i o a used q .hands-out v .0 (x .is) in
+        record { value = v; r = history .retrieves es k i o a used q .hands-out v .1 (y .0, held-too (calls-before (back h)) (y .1), y .2); s = x .is }
 
     report-is : (used : ℕ) → read (e .bytes) ≡ whole report used → answerAt callOn es k .code ≡ 0
         → answerAt box es k .number ≡ answerAt callOn es k .number
     report-is used q z =
-        let y = two .reports .report es k used b (q, code-is ∙ z) in
-        let x = demands .two .reports .report es k used b (q, z) in
+        let y = history .reports .report es k used b (q, code-is ∙ z) in
+        let x = demands .two .history .reports .report es k used b (q, z) in
         y ∙ rw (before, h .past) (sym x)
 
     number-is : (c : Call) (used : ℕ) → read (e .bytes) ≡ whole c used → answerAt callOn es k .code ≡ 0
@@ -381,12 +281,12 @@ module _ (box : Box) (two : Demand2 box) where
     shown-is exit used q z = none _ used q z refl
     shown-is (heapWrite p o v) used q z = none _ used q z refl
     shown-is (heapRead p o n) used q z =
-        shows-same _ _ p o n _ _ (h .past) (two .reports .heap-read es k p o n used b (q, code-is ∙ z))
-        (demands .two .reports .heap-read es k p o n used b (q, z))
+        shows-same _ _ p o n _ _ (h .past) (history .reports .heap-read es k p o n used b (q, code-is ∙ z))
+        (demands .two .history .reports .heap-read es k p o n used b (q, z))
     shown-is (sharedWrite o v) used q z = none _ used q z refl
     shown-is (sharedRead o n) used q z =
-        shows-same _ _ 16 o n _ _ (h .past) (two .reports .shared-read es k o n used b (q, code-is ∙ z))
-        (demands .two .reports .shared-read es k o n used b (q, z))
+        shows-same _ _ 16 o n _ _ (h .past) (history .reports .shared-read es k o n used b (q, code-is ∙ z))
+        (demands .two .history .reports .shared-read es k o n used b (q, z))
     shown-is (attest o n) used q z = none _ used q z refl
     shown-is (check i g v) used q z = none _ used q z refl
     shown-is (protect i o n d) used q z = none _ used q z refl
@@ -440,47 +340,29 @@ module _ (box : Box) (two : Demand2 box) where
       }
   same-to es (suc k) b = one-more es k (omega arith) (same-to es k (omega arith))
 
-pub fixed-by-two : FixedByTwo
+-- a refusal is its code
+refused-same : (box : Box) → RefusalsAlterNothing box → (es : List Element) (k : ℕ) → answerAt box es k .code ≡ answerAt callOn es k .code
+    → (answerAt callOn es k .code ≡ 0 → ⊥) → answerAt box es k ≡ answerAt callOn es k
+unfolding answerAt
+refused-same box alters es k q n =
+    let e = elementAt es k in
+    let r = alters (tablesBefore box es k) e (λ y. n (sym q ∙ y)) in
+    let s = demands .one .alters-nothing (tablesBefore callOn es k) e n in
+    let u = rw q at (r .used) in
+    same-answer _ _ q (r .number ∙ ap (numberAt (e .bytes)) q ∙ sym (s .number)) (same-used (e .bytes) _ _ _ u (s .used)) (r .shown ∙ sym (s .shown))
+
+pub fixed-by-history : FixedByHistory
 unfolding tablesBefore
-fixed-by-two box two es =
+fixed-by-history box numbers answers free history es =
     let n = length es in
-    let h = same-to box two es n (omega arith) in
+    let h = same-to box numbers answers free history es n (omega arith) in
     record {
       code = λ k b. h .answers k b .code;
       answer = λ k b. h .answers k b .accepted;
       tables = rw (take-all n es (omega arith)) at (h .tables n (omega arith));
-    }
-
--- ---- with demand 1, the refusals too
-
-module _ (box : Box) (one : Demand1 box) (two : Demand2 box) (es : List Element) where
-  pub tables-at : (k : ℕ) → k < length es → tablesBefore box es k ≡ tablesBefore callOn es k
-  tables-at k b = same-to box two es (length es) (omega arith) .tables k (omega arith)
-
-  pub answers-at : (k : ℕ) → k < length es → answerAt box es k ≡ answerAt callOn es k
-  unfolding answerAt
-  answers-at k b =
-      let h = same-to box two es (length es) (omega arith) .answers k b in
-      let e = elementAt es k in
-      by-cases (eqb (answerAt callOn es k .code) 0)
-      (λ z. h .accepted (eqb-true _ _ z))
-      (λ z.
-      let n = eqb-false _ _ z in
-      let r = one .alters-nothing (tablesBefore box es k) e (λ y. n (sym (h .code) ∙ y)) in
-      let s = demands .one .alters-nothing (tablesBefore callOn es k) e n in
-      let u = rw (h .code) at (r .used) in
-      same-answer _ _ (h .code) (r .number ∙ ap (numberAt (e .bytes)) (h .code) ∙ sym (s .number)) (same-used (e .bytes) _ _ _ u (s .used)) (r .shown ∙ sym (s .shown)))
-
-  answers-to : (k : ℕ) → k ≤ length es → answersFrom box freshTables (take k es) ≡ answersFrom callOn freshTables (take k es)
-  answers-to zero b = unfold answersFrom in refl
-  answers-to (suc k) b =
-      let l : k < length es = omega arith in
-      answers-next box es k l ∙ rw (answers-to k (omega arith), answers-at k l) (sym (answers-next callOn es k l))
-
-pub fixed : Fixed
-fixed box one two es =
-    let n = length es in
-    record {
-      answers = rw (take-all n es (omega arith)) at (answers-to box one two es n (omega arith));
-      tables = fixed-by-two box two es .tables;
+      every = λ alters k b.
+          let a = h .answers k b in
+          by-cases (eqb (answerAt callOn es k .code) 0)
+          (λ y. a .accepted (eqb-true _ _ y))
+          (λ y. refused-same box alters es k (a .code) (eqb-false _ _ y));
     }

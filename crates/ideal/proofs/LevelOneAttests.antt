@@ -13,19 +13,20 @@ use Rattle.record.specs.Call.{attest}
 use Rattle.record.specs.Read.{whole, read}
 use Rattle.ideal.specs.State.{Logged, State, caller, ownPart, any, sameBytes}
 use Rattle.ideal.specs.Step.{isLogged, logged, pairOf, paired, full, idle, beyond, tests, firstHolding}
-use Rattle.ideal.specs.Tables.{boxRecord, tables}
-use Rattle.ideal.specs.Box.{Element, elementAt, tablesBefore, answerAt}
+use Rattle.ideal.specs.Tables.{Tables, boxRecord, tables}
+use Rattle.ideal.specs.Box.{Element, Result, elementAt, tablesBefore, answerAt}
 use Rattle.ideal.specs.Refusals.{callerIn, ownBytes}
 use Rattle.ideal.specs.Accuracy.{LogsAt, Sized, Runs}
 use Rattle.ideal.specs.LevelOne.{putAfter, isOther, loggedOther, levelOneTests, levelOneRefusal, levelOneOn}
 use Rattle.ideal.specs.LevelOneDemands.{OtherBefore, AttestYields, OneValueEach}
 use Rattle.lists.proofs.Bools.{by-cases, and-left, and-right, and-true, not-is, clash}
 use Rattle.lists.proofs.Lists.{same-bytes, same-bytes-refl, any-at, at-any}
-use Rattle.ideal.proofs.LevelOneHistory.{turns, s, valid, before, code-at}
+use Rattle.ideal.proofs.LevelOneHistory.{Either, turns, s, valid, before, code-at, all-one}
+use Rattle.ideal.proofs.Befores.{back-before, logged-too}
 use Rattle.ideal.proofs.OwnHeap.{own-bytes}
 use Rattle.ideal.proofs.Does.{busy}
 use Rattle.ideal.proofs.Logs.{is-logged, logged-is, logged-since}
-use Rattle.ideal.proofs.StandIns.{fs, logged-before}
+use Rattle.ideal.proofs.StandIns.{fs, before as before-calls}
 
 -- ---- another value in the log
 
@@ -35,11 +36,12 @@ other-bytes v w f = by-cases (sameBytes v w) (λ y. absurd (f (same-bytes v w y)
 same-not : (v w : List ℕ) → sameBytes v w ≡ false → v ≡ w → ⊥
 same-not v w n q = clash (sameBytes v w) (rw q (same-bytes-refl w)) n
 
-module _ (es : List Element) (k i : ℕ) (v : List ℕ) where
+module _ {box : Tables → Element → Result} {One : Element → Type 0} (either : (t : Tables) (e : Element) → Either box One t e)
+    (es : List Element) (k i : ℕ) (v : List ℕ) where
   abbrev log : List Logged
-  log = s es k .log
+  log = s either es k .log
 
-  other-logged : any (isOther i v) log ≡ true → OtherBefore levelOneOn es k i v
+  other-logged : any (isOther i v) log ≡ true → OtherBefore box es k i v
   unfolding isOther logged
   other-logged h =
       let p = any-at (isOther i v) log h in
@@ -52,16 +54,16 @@ module _ (es : List Element) (k i : ℕ) (v : List ℕ) where
       record {
         value = r .value;
         tag = r .key .tag;
-        logged = logged-before turns es k .0 (logged-since (fs turns es) i (r .key .tag) (r .value) k .0 there);
+        logged = logged-too (before-calls (turns either) es k) (logged-since (fs (turns either) es) i (r .key .tag) (r .value) k .0 there);
         other = same-not (r .value) v differs;
       }
 
-  logged-other : OtherBefore levelOneOn es k i v → any (isOther i v) log ≡ true
+  logged-other : OtherBefore box es k i v → any (isOther i v) log ≡ true
   unfolding isOther logged
   logged-other x =
       let g = x .tag in
       let w = x .value in
-      let p = any-at (isLogged i g w) log (logged-since (fs turns es) i g w k .1 (logged-before turns es k .1 (x .logged))) in
+      let p = any-at (isLogged i g w) log (logged-since (fs (turns either) es) i g w k .1 (logged-too (back-before (before-calls (turns either) es k)) (x .logged))) in
       let d = pairOf i v in
       let is = is-logged i g w _ (p .passes d) in
       at-any (isOther i v) log d (p .index) (p .within)
@@ -95,56 +97,57 @@ is-0 false false c d q = (refl, refl)
 
 -- ---- at an index
 
-module _ (es : List Element) (k o n : ℕ) where
+module _ {box : Tables → Element → Result} {One : Element → Type 0} (either : (t : Tables) (e : Element) → Either box One t e)
+    (es : List Element) (k o n : ℕ) where
   abbrev t : State
-  t = s es k
+  t = s either es k
 
-  runs-at : idle t ≡ false → Runs levelOneOn es k
+  runs-at : idle t ≡ false → Runs box es k
   unfolding idle tables boxRecord
-  runs-at h q = eqb-false _ 16 h (ap (λ x. x .box .running) (sym (before es k)) ∙ q)
+  runs-at h q = eqb-false _ 16 h (ap (λ x. x .box .running) (sym (before either es k)) ∙ q)
 
-  at-runs : Runs levelOneOn es k → idle t ≡ false
+  at-runs : Runs box es k → idle t ≡ false
   unfolding idle tables boxRecord
-  at-runs f = ne-eqb _ 16 (λ q. f (ap (λ x. x .box .running) (before es k) ∙ q))
+  at-runs f = ne-eqb _ 16 (λ q. f (ap (λ x. x .box .running) (before either es k) ∙ q))
 
-  caller-at : callerIn (tablesBefore levelOneOn es k) ≡ caller t
+  caller-at : callerIn (tablesBefore box es k) ≡ caller t
   unfolding tables boxRecord
-  caller-at = ap (λ x. callerIn x) (before es k)
+  caller-at = ap (λ x. callerIn x) (before either es k)
 
-  own-at : idle t ≡ false → o + n ≤ 256 → ownBytes (tablesBefore levelOneOn es k) o n ≡ ownPart t o n
-  own-at h f = ap (λ x. ownBytes x o n) (before es k) ∙ own-bytes t (valid es k) (busy t (valid es k) h) o n f
+  own-at : idle t ≡ false → o + n ≤ 256 → ownBytes (tablesBefore box es k) o n ≡ ownPart t o n
+  own-at h f = ap (λ x. ownBytes x o n) (before either es k) ∙ own-bytes t (valid either es k) (busy t (valid either es k) h) o n f
 
-  module _ (used : ℕ) (reads : read (elementAt es k .bytes) ≡ whole (attest o n) used) where
+  module _ (one : One (elementAt es k)) (used : ℕ) (reads : read (elementAt es k .bytes) ≡ whole (attest o n) used) where
     -- an accepted attest
-    accepted-at : answerAt levelOneOn es k .code ≡ 0 → Sized levelOneOn es k × Runs levelOneOn es k × (o + n ≤ 256)
+    accepted-at : answerAt box es k .code ≡ 0 → Sized box es k × Runs box es k × (o + n ≤ 256)
     unfolding beyond
     accepted-at q =
-        let a = code-at es k (attest o n) used reads 0 (λ z. omega arith) .0 q in
+        let a = code-at either es k one (attest o n) used reads 0 (λ z. omega arith) .0 q in
         let b = is-0 _ _ _ _ (sym (refusal-is t o n) ∙ a .1) in
         (a .0, runs-at (b .0), ltb-false 256 (o + n) (b .1))
 
-    pub yields-at : (answerAt levelOneOn es k .code ≡ 23)
+    pub yields-at : (answerAt box es k .code ≡ 23)
         ↔ (
-        Sized levelOneOn es k × Runs levelOneOn es k × (o + n ≤ 256)
-        × OtherBefore levelOneOn es k (callerIn (tablesBefore levelOneOn es k)) (ownBytes (tablesBefore levelOneOn es k) o n)
+        Sized box es k × Runs box es k × (o + n ≤ 256)
+        × OtherBefore box es k (callerIn (tablesBefore box es k)) (ownBytes (tablesBefore box es k) o n)
         )
     unfolding beyond loggedOther
     yields-at = (
       λ q.
-          let a = code-at es k (attest o n) used reads 23 (λ z. omega arith) .0 q in
+          let a = code-at either es k one (attest o n) used reads 23 (λ z. omega arith) .0 q in
           let b = is-23 _ _ _ _ (sym (refusal-is t o n) ∙ a .1) in
           let f = ltb-false 256 (o + n) (b .1) in
-          (a .0, runs-at (b .0), f, rw (caller-at, own-at (b .0) f) (other-logged es k (caller t) (ownPart t o n) (b .2))),
+          (a .0, runs-at (b .0), f, rw (caller-at, own-at (b .0) f) (other-logged either es k (caller t) (ownPart t o n) (b .2))),
       λ x.
           let h = at-runs (x .1) in
           let f = x .2 in
-          let l = logged-other es k (caller t) (ownPart t o n) (rw (caller-at, own-at h f) at (x .3)) in
-          code-at es k (attest o n) used reads 23 (λ z. omega arith) .1
+          let l = logged-other either es k (caller t) (ownPart t o n) (rw (caller-at, own-at h f) at (x .3)) in
+          code-at either es k one (attest o n) used reads 23 (λ z. omega arith) .1
           (x .0, refusal-is t o n ∙ unfold numbered in rw (h, le-ltb 256 (o + n) f, l)),
     )
 
 pub attest-yields : AttestYields levelOneOn
-attest-yields es k o n used r = yields-at es k o n used r
+attest-yields es k o n used r = yields-at all-one es k o n refl used r
 
 -- ---- one value each
 
@@ -161,7 +164,7 @@ later-index es i j k v w g h a b l =
     by-cases (sameBytes v w)
     (λ y. same-bytes v w y)
     (λ n.
-    let p = accepted-at es k (b .offset) (b .size) (b .used) (b .reads) (b .accepts) in
+    let p = accepted-at all-one es k (b .offset) (b .size) refl (b .used) (b .reads) (b .accepts) in
     let x : OtherBefore levelOneOn es k i w =
     record { value = v; tag = g; logged = record { index = j; before = l; there = a }; other = same-not v w n } in
     let z = attest-yields es k (b .offset) (b .size) (b .used) (b .reads) .1

@@ -9,11 +9,13 @@ use Rattle.record.specs.Read.{whole, read}
 use Rattle.ideal.specs.State.{any}
 use Rattle.ideal.specs.Step.{refusal, refusedAnswer}
 use Rattle.ideal.specs.Tables.{Tables, stateOf}
-use Rattle.ideal.specs.Box.{Element, laid, callOn, outputAfter}
+use Rattle.ideal.specs.Box.{Element, laid, callOn}
 use Rattle.ideal.specs.Layouts.{StaysSound}
 use Rattle.ideal.specs.Refusals.{oneOf, was-read, numberAt, followed, Refused, RefusalsAlterNothing, NeverFive, NumberOnlyWithOne, MissingIsExact}
 use Rattle.ideal.specs.Answers.{AcceptedAnswers}
 use Rattle.ideal.specs.Accuracy.{LongCheckIsNo, HandleIsFirstFree}
+use Rattle.ideal.specs.OneCall.{AcceptedCalls}
+use Rattle.ideal.specs.Release.{ReleaseAlters}
 use Rattle.ideal.specs.LevelOne.{levelOneOn}
 use Rattle.ideal.specs.LevelOneDemands.{barring, ElseFull}
 use Rattle.lists.proofs.Bools.{by-cases, clash}
@@ -24,7 +26,10 @@ use Rattle.ideal.proofs.Accepts.{accepted-answers}
 use Rattle.ideal.proofs.MissingBytes.{number-only-with-one, missing-is-exact}
 use Rattle.ideal.proofs.Checks.{long-check-is-no}
 use Rattle.ideal.proofs.FirstFree.{handle-is-first-free}
-use Rattle.ideal.proofs.Yields.{as-full, barred, refusedOn, box-settles, yields}
+use Rattle.ideal.proofs.OneCalls.{accepted-calls}
+use Rattle.ideal.proofs.Released.{release-alters}
+use Rattle.ideal.proofs.OneAnswer.{box-settles}
+use Rattle.ideal.proofs.Yields.{as-full, barred, refusedOn, yields}
 
 -- none of the three is a number of the reader's, or 15
 not-reader : (n : ℕ) → barring n ≡ true → oneOf readNumbers n ≡ false
@@ -62,7 +67,7 @@ module _ (t : Tables) (e : Element) where
 pub else-full : ElseFull levelOneOn
 else-full t e h =
     let q = full-else t e h in
-    record { answer = ap (λ r. r .answer) q; tables = ap (λ r. r .tables) q; output = λ out. ap (λ r. outputAfter (r .answer) out) q }
+    record { answer = ap (λ r. r .answer) q; tables = ap (λ r. r .tables) q }
 
 pub level-one-stays-sound : StaysSound levelOneOn
 level-one-stays-sound t e h =
@@ -75,10 +80,10 @@ level-one-stays-sound t e h =
 
 barred-alters-nothing : (t : Tables) (e : Element) (c : Call) (used n : ℕ) → read (e .bytes) ≡ whole c used → barring n ≡ true
     → Refused t e (refusedOn t n used)
-unfolding refusedAnswer numberAt oneOf any outputAfter barring
+unfolding refusedAnswer numberAt oneOf any barring
 barred-alters-nothing t e c used n r h =
     let one : eqb n 1 ≡ false = by-cases (eqb n 1) (λ y. absurd (false≢true (rw (eqb-true n 1 y) at h))) (λ y. y) in
-    record { tables = refl; number = rw one; shown = refl; used = was-read (not-reader n h) c r; output = λ out. refl }
+    record { tables = refl; number = rw one; shown = refl; used = was-read (not-reader n h) c r }
 
 pub alters-nothing : RefusalsAlterNothing levelOneOn
 alters-nothing t e f =
@@ -126,6 +131,18 @@ unfolding barring oneOf any
 first-free-handle t e i o n d used r z =
     let q = full-with t e 0 refl z in
     rw q (handle-is-first-free t e i o n d used r (rw q at z))
+
+pub calls-accepted : AcceptedCalls levelOneOn
+unfolding barring oneOf any
+calls-accepted t e c used r z =
+    let q = full-with t e 0 refl z in
+    rw q (accepted-calls t e c used r (rw q at z))
+
+pub alters-released : ReleaseAlters levelOneOn
+unfolding barring oneOf any
+alters-released t e i h used r z =
+    let q = full-with t e 0 refl z in
+    rw q (release-alters t e i h used r (rw q at z))
 
 whole-call : {c d : Call} {m n : ℕ} → whole c m ≡ whole d n → c ≡ d
 whole-call q = cc

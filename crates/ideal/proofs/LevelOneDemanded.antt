@@ -1,11 +1,10 @@
--- The demands, of the level-one box; and which box each profile is. Assumes nothing.
-use mathlib.Core.Path.{refl}
+-- The demands, of the level-one box. Assumes nothing.
 use Rattle.ideal.specs.LevelOne.{levelOneOn}
-use Rattle.ideal.specs.LevelOneDemands.{LevelOneDemands, ProfilesAre}
-use Rattle.ideal.proofs.LevelOneCalls.{else-full, level-one-stays-sound, alters-nothing, none-five, only-one-numbered, exactly-missing, answers-accepted, first-free-handle, long-check-no}
+use Rattle.ideal.specs.LevelOneDemands.{LevelOneDemands}
+use Rattle.ideal.proofs.LevelOneCalls.{else-full, level-one-stays-sound, alters-nothing, none-five, only-one-numbered, exactly-missing, answers-accepted, calls-accepted, alters-released, first-free-handle, long-check-no}
 use Rattle.ideal.proofs.LevelOneNumbers.{each-number}
 use Rattle.ideal.proofs.LevelOneThree.{three-numbers}
-use Rattle.ideal.proofs.LevelOneSecret.{level-one-secrecy}
+use Rattle.ideal.proofs.LevelOneSecret.{level-one-secrecy, level-one-exempt}
 use Rattle.ideal.proofs.LevelOneHistory.{holds, reports, once, checks, escrow-is-barred, retrieve-hands-out}
 use Rattle.ideal.proofs.LevelOneAttests.{attest-yields, one-value-each}
 use Rattle.ideal.proofs.LevelOneLow.{low}
@@ -26,14 +25,19 @@ level-one-demands =
           };
       two =
           record {
-            refuses-no-more = each-number;
+            call =
+                record {
+                  refuses-no-more = each-number;
+                  does = calls-accepted;
+                  answers = answers-accepted;
+                  handles-free = first-free-handle;
+                  long-checks = long-check-no;
+                  release-alters = alters-released;
+                };
             checks = checks;
-            long-checks = long-check-no;
             handles-once = once;
-            handles-free = first-free-handle;
             holds = holds;
             reports = reports;
-            answers = answers-accepted;
             barred = escrow-is-barred;
             retrieves = retrieve-hands-out;
             attests = attest-yields;
@@ -41,7 +45,5 @@ level-one-demands =
             low = low;
           };
       three = level-one-secrecy;
+      secrecy = level-one-exempt;
     }
-
-pub profiles-are : ProfilesAre
-profiles-are = record { full = refl; level-one = refl }

@@ -8,9 +8,11 @@ use Rattle.ideal.specs.Refusals.{oneOf, EachNumberBy, RefusalsAlterNothi
 use Rattle.ideal.specs.LevelOne.{levelOneOn, levelOneConditions}
 use Rattle.ideal.specs.LevelOneDemands.{barring, ElseFull, LevelOneFixed}
 use Rattle.lists.proofs.Bools.{by-cases}
-use Rattle.ideal.proofs.OneAnswer.{same-result, same-refusal}
-use Rattle.ideal.proofs.LevelOneCalls.{full-else, alters-nothing}
+use Rattle.ideal.proofs.OneAnswer.{Whole, same-result, same-refusal, accepted-reads}
+use Rattle.ideal.proofs.LevelOneCalls.{full-else, full-with, alters-nothing}
 use Rattle.ideal.proofs.LevelOneNumbers.{each-number}
+use Rattle.ideal.proofs.LevelOneDemanded.{level-one-demands}
+use Rattle.ideal.proofs.FixedCalls.{same-code, same-call}
 
 module _ (box : Tables → Element → Result) (full : ElseFull box) (numbers : EachNumberBy box levelOneConditions)
     (alters : RefusalsAlterNothing box) (t : Tables) (e : Element) where
@@ -21,7 +23,7 @@ module _ (box : Tables → Element → Result) (full : ElseFull box) (numbers : 
   s = levelOneOn t e
 
   code-is : r .answer .code ≡ s .answer .code
-  code-is = let n = s .answer .code in numbers t e n .1 (each-number t e n .0 refl)
+  code-is = same-code box levelOneOn numbers each-number t e
 
   when-refused : (s .answer .code ≡ 0 → ⊥) → r ≡ s
   when-refused n = same-refusal code-is (alters t e (λ z. n (sym code-is ∙ z))) (alters-nothing t e n)
@@ -33,5 +35,15 @@ module _ (box : Tables → Element → Result) (full : ElseFull box) (numbers : 
       (λ h. when-refused (λ z. false≢true (rw z at h)))
       (λ h. let f = full t e (rw code-is h) in same-result _ _ (f .tables) (f .answer) ∙ sym (full-else t e h))
 
+-- what it accepts, the full box accepts
+pub level-one-reads : (t : Tables) (e : Element) → levelOneOn t e .answer .code ≡ 0 → Whole (e .bytes)
+unfolding barring oneOf any
+level-one-reads t e z = accepted-reads t e (rw (full-with t e 0 refl z) at z)
+
 pub level-one-fixed : LevelOneFixed
-level-one-fixed = fixed
+level-one-fixed =
+    record {
+      by-demands = λ box one two t e.
+          same-call (level-one-demands .two .call) box two t e (level-one-reads t e) (one .alters-nothing) alters-nothing;
+      by-full = fixed;
+    }

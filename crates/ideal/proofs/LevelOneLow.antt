@@ -22,7 +22,7 @@ use Rattle.lists.proofs.Bools.{by-cases, and-left, and-right, and-true, or-true
 use Rattle.ideal.proofs.Passing.{failed, passed}
 use Rattle.ideal.proofs.Accepts.{sound-of}
 use Rattle.ideal.proofs.Numbers.{settle-code}
-use Rattle.ideal.proofs.Yields.{box-settles}
+use Rattle.ideal.proofs.OneAnswer.{box-settles}
 use Rattle.ideal.proofs.LevelOneCalls.{full-with}
 use Rattle.ideal.proofs.LevelOneHistory.{holds}
 

@@ -1,31 +1,34 @@
 -- Demand 3 of the level-one box: in two runs the same calls are barred, with the same numbers. Assumes nothing.
 use Prim.Native.Nat.{ℕ}
 use mathlib.Core.Path.{_≡_, refl, sym, ap, _∙_, subst, subst₂}
-use mathlib.Core.Bool.{Bool, true, false}
+use mathlib.Core.Bool.{Bool, true, false, false≢true}
 use native.Mathlib.Omega.{arith}
 use lib.Dec.{eqb}
+use borrow.Author.Tests.{eqb-true}
 use Rattle.record.specs.Call.{Call, create, exit, heapWrite, heapRead, sharedWrite, sharedRead, attest, check, protect, retrieve, report, handOver, chain, release}
 use Rattle.record.specs.Read.{Reading, refused, whole, read}
 use Rattle.record.specs.Write.{filled}
 use Rattle.ideal.specs.State.{State}
 use Rattle.ideal.specs.Step.{beyond, refusedAnswer}
 use Rattle.ideal.specs.Tables.{Tables, tables}
-use Rattle.ideal.specs.Box.{Element, Result, callOn}
+use Rattle.ideal.specs.Box.{Element, Result, unsound, boxBy, callOn}
 use Rattle.ideal.specs.Valid.{Valid}
-use Rattle.ideal.specs.Secrecy.{AlikeAt, same, other-bytes, PremiseAt, Secrecy}
+use Rattle.ideal.specs.Secrecy.{groupRuns, AlikeAt, same, other-bytes, PremiseAt, Exemption, isChain, ownChain, SecrecyBut, Secrecy}
 use Rattle.ideal.specs.Fakes.{kindIn, usedIn, reply}
 use Rattle.ideal.specs.LevelOne.{loggedOther, levelOneOn}
-use Rattle.lists.proofs.Bools.{by-cases, clash}
+use Rattle.ideal.specs.LevelOneDemands.{noneExempt}
+use Rattle.lists.proofs.Bools.{by-cases, clash, and-false}
 use Rattle.ideal.proofs.Laid.{ready-is, state-tables}
 use Rattle.ideal.proofs.TwoStates.{SameBut, same-idle, same-caller}
-use Rattle.ideal.proofs.Secret.{held, known-attest, told, Related}
-use Rattle.ideal.proofs.FakedSecret.{Keeps, secret, keeps-call, keeps-reply, common-used, as-other}
+use Rattle.ideal.proofs.TwoRuns.{Stepped}
+use Rattle.ideal.proofs.Secret.{held, known-attest, told, Related, exempt-more}
+use Rattle.ideal.proofs.FakedSecret.{Keeps, secret, premise-as, keeps-call, keeps-reply, common-used, as-other}
 use Rattle.ideal.proofs.OwnRefusals.{then23, barredWith}
 use Rattle.ideal.proofs.Yields.{barredReading, barredIn, as-full, barred, yields}
 
 -- ---- the level-one box, by level one's own refusal
 
-full-where : (t : Tables) (e : Element) → eqb (barredIn t e) 0 ≡ true → levelOneOn t e ≡ callOn t e
+pub full-where : (t : Tables) (e : Element) → eqb (barredIn t e) 0 ≡ true → levelOneOn t e ≡ callOn t e
 full-where t e h =
     elim (yields t e) [
       | as-full n q ↦ q
@@ -100,18 +103,90 @@ alike {G} {e = e} {f = f} r =
     subst₂ (λ x y. AlikeAt G x e f → PremiseAt levelOneOn G x y e → barredIn x e ≡ barredIn y f) (r .is₁) (r .is₂)
     (λ a p. same-barred G (r .same) (r .valid₁) (r .valid₂) e p f a)
 
-keeps : Keeps levelOneOn
+same-size : {G : ℕ → Bool} {t : Tables} {e f : Element} → AlikeAt G t e f → e .outputSize ≡ f .outputSize
+same-size (same q) = ap (λ x. x .outputSize) q
+same-size (other-bytes g h) = h .outputSize
+
+chain-barred : (s : State) (r : Reading) → isChain r ≡ true → barredReading s r ≡ 21
+unfolding isChain barredReading barredWith filled
+chain-barred s (refused code n) h = absurd (false≢true h)
+chain-barred s (whole (create p i) u) h = absurd (false≢true h)
+chain-barred s (whole exit u) h = absurd (false≢true h)
+chain-barred s (whole (heapWrite p o v) u) h = absurd (false≢true h)
+chain-barred s (whole (heapRead p o n) u) h = absurd (false≢true h)
+chain-barred s (whole (sharedWrite o v) u) h = absurd (false≢true h)
+chain-barred s (whole (sharedRead o n) u) h = absurd (false≢true h)
+chain-barred s (whole (attest o n) u) h = absurd (false≢true h)
+chain-barred s (whole (check i g v) u) h = absurd (false≢true h)
+chain-barred s (whole (protect i o n d) u) h = absurd (false≢true h)
+chain-barred s (whole (retrieve i o g) u) h = absurd (false≢true h)
+chain-barred s (whole report u) h = absurd (false≢true h)
+chain-barred s (whole (handOver p) u) h = absurd (false≢true h)
+chain-barred s (whole (chain w i x v) u) h = refl
+chain-barred s (whole (release i g) u) h = absurd (false≢true h)
+
+-- where none of its own is given to a chain, the box is not lent an output buffer of its size
+chain-unlent : (s t : State) (e f : Element) → Valid s → Valid t → e .outputSize ≡ f .outputSize → isChain (read (e .bytes)) ≡ true
+    → barredIn (tables s) e ≡ 0 → callOn (tables s) e .answer ≡ callOn (tables t) f .answer
+unfolding barredIn boxBy unsound
+chain-unlent s t e f v w q c b =
+    by-cases (eqb (e .outputSize) 1024)
+    (λ z.
+    let n : barredReading s (read (e .bytes)) ≡ 0 = rw (ready-is s (e .outputSize) v, z, state-tables s v) at b in
+    absurd (omega (arith, sym (chain-barred s (read (e .bytes)) c) ∙ n)))
+    (λ z. rw (← q, ready-is s (e .outputSize) v, ready-is t (e .outputSize) w, z))
+
+-- so that no answer is exempt
+as-in-full : {G : ℕ → Bool} {x y : Tables} {e f : Element} → Related G x y → AlikeAt G x e f → PremiseAt callOn G x y e
+    → barredIn x e ≡ 0 → Stepped noneExempt callOn G (Related G) x y e f
+unfolding ownChain
+as-in-full {G} {x} {y} {e} {f} r a p b =
+    let o = keeps-call .both r a p in
+    let same : isChain (read (e .bytes)) ≡ true → callOn x e .answer ≡ callOn y f .answer =
+    λ c.
+    subst₂ (λ x y. barredIn x e ≡ 0 → callOn x e .answer ≡ callOn y f .answer) (r .is₁) (r .is₂)
+    (chain-unlent (r .first) (r .second) e f (r .valid₁) (r .valid₂) (same-size a) c) b in
+    by-cases (isChain (read (e .bytes)))
+    (λ c.
+    record {
+      answer =
+          record {
+            code = λ _. ap (λ z. z .code) (same c);
+            number = λ _. ap (λ z. z .number) (same c);
+            used = o .answer .used;
+            shown = o .answer .shown;
+          };
+      after = o .after;
+    })
+    (λ c.
+    let q : ownChain G x e ≡ false = and-false (groupRuns G x) _ c in
+    record { answer = exempt-more {x = false} (λ f. absurd (false≢true f)) (rw q at (o .answer)); after = o .after })
+
+pub keeps : Keeps noneExempt levelOneOn
 keeps =
     record {
       both = λ {x = x} {y = y} {e = e} {f = f} r a p.
           let n = barredIn x e in
           let q : n ≡ barredIn y f = alike r a p in
           by-cases (eqb n 0)
-          (λ h. as-other keeps-call (full-where x e h) (full-where y f (rw (← q) h)) r a p)
           (λ h.
-          as-other (keeps-reply n 0 common-used) (barred-where x e h)
+          let u = full-where x e h in
+          let o = as-in-full r a (premise-as (ap (λ z. z .answer .code) u) p) (eqb-true n 0 h) in
+          record { answer = rw (u, full-where y f (rw (← q) h)) (o .answer); after = rw (u, full-where y f (rw (← q) h)) (o .after) })
+          (λ h.
+          as-other {at = noneExempt} (keeps-reply n 0 common-used) refl (barred-where x e h)
           (subst (λ m. levelOneOn y f ≡ reply y m 0 (usedIn (read (f .bytes)))) (sym q) (barred-where y f (rw (← q) h))) r a p);
     }
 
-pub level-one-secrecy : Secrecy levelOneOn
+pub level-one-secrecy : SecrecyBut noneExempt levelOneOn
 level-one-secrecy = secret keeps
+
+-- what is shown where less is exempt
+pub but-less : {less more : Exemption} {box : Tables → Element → Result}
+    → ((G : ℕ → Bool) (t : Tables) (e : Element) → less G t e ≡ true → more G t e ≡ true) → SecrecyBut less box → SecrecyBut more box
+but-less h k G es fs a p =
+    let q = k G es fs a p in
+    record { answers = λ n l. exempt-more (h G _ _) (q .answers n l); end = q .end }
+
+pub level-one-exempt : Secrecy levelOneOn
+level-one-exempt = but-less (λ G t e f. absurd (false≢true f)) level-one-secrecy

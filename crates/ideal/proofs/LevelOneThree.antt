@@ -28,7 +28,7 @@ use Rattle.ideal.proofs.OwnHeap.{own-bytes}
 use Rattle.ideal.proofs.Does.{busy}
 use Rattle.ideal.proofs.Numbers.{settle-code, never-refused}
 use Rattle.ideal.proofs.OwnRefusals.{then22, then23, barredWith, level-one}
-use Rattle.ideal.proofs.Yields.{box-settles}
+use Rattle.ideal.proofs.OneAnswer.{box-settles}
 
 -- ---- by level one's own refusal
 

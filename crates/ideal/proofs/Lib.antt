@@ -56,8 +56,8 @@ pub mod OneAnswer
 pub mod OneCalls
 pub mod Released
 pub mod FixedCalls
+pub mod Befores
 pub mod FixedRuns
-pub mod FixedSecret
 pub mod Faked
 pub mod FakedSecret
 pub mod Steered
@@ -74,4 +74,6 @@ pub mod StandIns
 pub mod LevelOneHistory
 pub mod LevelOneAttests
 pub mod LevelOneLow
+pub mod WithoutEscrow
 pub mod LevelOneDemanded
+pub mod ProfilesDemanded

@@ -11,6 +11,7 @@ use lib.Dec.{eqb, ltb, eqb·suc-zero, eqb·suc-suc}
 use borrow.Author.Tests.{ltb-true, ltb-false, lt-ltb, le-ltb, eqb-true, eqb-false, not-true}
 use Rattle.record.specs.Layout.{stands, mapOf}
 use Rattle.record.specs.Read.{read, fromLittle}
+use Rattle.ideal.specs.declared.Profile.{Profile}
 use Rattle.ideal.specs.State.{part, any, every}
 use Rattle.ideal.specs.Tables.{Tables}
 use Rattle.ideal.specs.Soundness.{sizesRight, sound}
@@ -156,9 +157,9 @@ cut-tested true true false false cut x n e = absurd (omega arith)
 cut-tested true true false true false x n e = absurd (n e)
 cut-tested true true false true true x n e = (refl, λ y. refl)
 
-module _ (t : Tables) (size : ℕ) where
+module _ (t : Tables) (size : ℕ) (p : Profile) where
   abbrev given : List ℕ → Element
-  given bs = record { bytes = bs; outputSize = size }
+  given bs = record { bytes = bs; outputSize = size; profile = p }
 
   not-one : (bs : List ℕ) → firstOf (onCall t (read bs)) ≡ 1 → ⊥
   unfolding every callConditions
@@ -225,7 +226,7 @@ module _ (box : Tables → Element → Result) (numbers : EachNumber box) (alter
   pub only-with-one : NumberOnlyWithOne box
   unfolding numberAt
   only-with-one t e f = (
-    λ h z. omega (arith, number-missing t e h, cut-some t (e .outputSize) (e .bytes) (first t e h)),
+    λ h z. omega (arith, number-missing t e h, cut-some t (e .outputSize) (e .profile) (e .bytes) (first t e h)),
     λ n. by-cases (eqb (box t e .answer .code) 1)
         (λ b. eqb-true _ 1 b)
         (λ b. absurd (n (alters t e f .number ∙ rw b))),
@@ -237,10 +238,10 @@ module _ (box : Tables → Element → Result) (numbers : EachNumber box) (alter
       let bs = e .bytes in
       record {
         fewer = λ more l.
-            let k = fewer-more t (e .outputSize) bs more (first t e h) (rw n at l) in
+            let k = fewer-more t (e .outputSize) (e .profile) bs more (first t e h) (rw n at l) in
             let g = numbers t (followed e more) 1 .1 (first-of 1 _ .0 (k .0)) in
             (g, omega (arith, number-missing t (followed e more) g, k .1, n), k .2);
-        enough = λ more l. enough-more t (e .outputSize) bs more (first t e h) (l ∙ n);
+        enough = λ more l. enough-more t (e .outputSize) (e .profile) bs more (first t e h) (l ∙ n);
       }
 
 pub number-only-with-one : NumberOnlyWithOne callOn

@@ -12,7 +12,7 @@ use Rattle.ideal.specs.State.{State, any, every}
 use Rattle.ideal.specs.Step.{Link, refusal, refusedAnswer, refuse, accepted, settle, onReading, readingBy, stepOnBy, stepBy}
 use Rattle.ideal.specs.Tables.{Tables, tables, stateOf}
 use Rattle.ideal.specs.Soundness.{sizesRight, sound}
-use Rattle.ideal.specs.Box.{Element, laid, unsound, callOn, outputAfter, boxBy}
+use Rattle.ideal.specs.Box.{Element, laid, unsound, callOn, boxBy}
 use Rattle.ideal.specs.Layouts.{Sound}
 use Rattle.ideal.specs.Refusals.{oneOf, readerConditions, chainConditions, callConditions, onCall, conditions, unread, was-read, numberAt, Refused, EachNumberBy, EachNumber, RefusalsAlterNothing, NeverFive, conditionsBy, onCallBy}
 use Rattle.lists.proofs.Bools.{by-cases, and-left, and-right, or-false-left, not-is}
@@ -133,25 +133,25 @@ read-refused bs code number e =
 module _ (t : Tables) (e : Element) (h : Sound t (e .outputSize)) where
   settle-refused : (c : Call) (used n : ℕ) → read (e .bytes) ≡ whole c used → oneOf readNumbers n ≡ false
       → (settle n (stateOf t) c used .answer .code ≡ 0 → ⊥) → Refused t e (laid (settle n (stateOf t) c used))
-  unfolding settle accepted laid refuse refusedAnswer outputAfter numberAt oneOf any
+  unfolding settle accepted laid refuse refusedAnswer numberAt oneOf any
   settle-refused c used zero r k f = absurd (f refl)
   settle-refused c used (suc n) r k f =
       let other = eqb-false 1 (suc n) (or-false-left (eqb 1 (suc n)) _ k) in
       let none = ne-eqb (suc n) 1 (λ y. other (sym y)) in
-      record { tables = tables-state t _ h; number = rw none; shown = refl; used = was-read k c r; output = λ out. refl }
+      record { tables = tables-state t _ h; number = rw none; shown = refl; used = was-read k c r }
 
   reading-refused : (r : Reading) → read (e .bytes) ≡ r → (onReading (stateOf t) r .answer .code ≡ 0 → ⊥)
       → Refused t e (laid (onReading (stateOf t) r))
-  unfolding readingBy laid refuse refusedAnswer stepBy outputAfter
+  unfolding readingBy laid refuse refusedAnswer stepBy
   reading-refused (refused code number) r f =
       let k = read-refused (e .bytes) code number r in
-      record { tables = tables-state t _ h; number = k .0; shown = refl; used = unread (k .1) refl; output = λ out. refl }
+      record { tables = tables-state t _ h; number = k .0; shown = refl; used = unread (k .1) refl }
   reading-refused (whole c used) r f = settle-refused c used (refusal (stateOf t) c) r (call-number t _ h c) f
 
 pub refusals-alter-nothing : RefusalsAlterNothing callOn
-unfolding boxBy laid unsound refusedAnswer outputAfter numberAt oneOf any stepOnBy
+unfolding boxBy laid unsound refusedAnswer numberAt oneOf any stepOnBy
 refusals-alter-nothing t e =
     by-cases (sizesRight t (e .outputSize) && sound t)
     (λ h. rw h (reading-refused t e (sound-of t _ h) (read (e .bytes)) refl))
     (λ h. rw h
-    (λ f. record { tables = refl; number = refl; shown = refl; used = unread refl refl; output = λ out. refl }))
+    (λ f. record { tables = refl; number = refl; shown = refl; used = unread refl refl }))

@@ -1,22 +1,25 @@
 -- What the statements about one call fix of its answer. Assumes nothing.
 use Prim.Native.Nat.{ℕ, _<_}
 use mathlib.Core.Path.{_≡_, refl, sym, ap, _∙_}
-use mathlib.Core.Bool.{false≢true}
+use mathlib.Core.Bool.{cond, false≢true}
 use mathlib.Core.List.{List}
 use native.Mathlib.Omega.{arith}
-use lib.Dec.{ltb}
+use lib.Dec.{eqb, ltb}
 use borrow.Author.Tests.{ltb-true, ltb-false}
 use Rattle.record.specs.declared.Handle.{Handle}
 use Rattle.record.specs.Call.{Call}
 use Rattle.record.specs.Read.{Reading, refused, whole, read}
-use Rattle.ideal.specs.State.{any}
-use Rattle.ideal.specs.Step.{Answer, refuse, refusedAnswer, readingBy, stepOnBy}
-use Rattle.ideal.specs.Tables.{Tables}
-use Rattle.ideal.specs.Box.{Element, Result, laid, callOn, boxBy}
+use Rattle.ideal.specs.State.{State, any}
+use Rattle.ideal.specs.Step.{Answer, refuse, refusedAnswer, settle, readingBy, stepOnBy, stepBy}
+use Rattle.ideal.specs.Tables.{Tables, tables, stateOf}
+use Rattle.ideal.specs.Box.{Element, Result, laid, unsound, callOn, boxBy}
+use Rattle.ideal.specs.Layouts.{Sound}
+use Rattle.ideal.specs.Valid.{Valid}
 use Rattle.ideal.specs.Refusals.{oneOf, UsedAt, unread, was-read, numberAt, Refused}
 use Rattle.ideal.specs.Accuracy.{candidate, handleUsed, FirstFree}
 use Rattle.lists.proofs.Bools.{by-cases, clash}
-use Rattle.ideal.proofs.Numbers.{read-refused}
+use Rattle.ideal.proofs.Laid.{ready-is, state-tables}
+use Rattle.ideal.proofs.Numbers.{settle-code, read-refused}
 use Rattle.ideal.proofs.Accepts.{sound-of}
 
 -- the first free handle is one
@@ -73,3 +76,19 @@ accepted-reads t e z = at (read (e .bytes)) refl
         let ok = sound-of t e z in
         let y : code ≡ 0 = rw (ok .sizes, ok .box, q) at z in
         absurd (false≢true (rw y at (read-refused (e .bytes) code n q .1)))
+
+-- ---- a box that refuses calls with any numbers
+
+-- a call that is read, on a sound box
+pub box-settles : (refuses : State → Call → ℕ) (t : Tables) (e : Element) → Sound t (e .outputSize) → (c : Call) (used : ℕ)
+    → read (e .bytes) ≡ whole c used → boxBy refuses t e ≡ laid (settle (refuses (stateOf t) c) (stateOf t) c used)
+unfolding boxBy stepOnBy readingBy stepBy
+box-settles refuses t e h c used r = rw (h .sizes, h .box, r)
+
+-- its code, where the tables are those of a valid state
+pub code-is : (refuses : State → Call → ℕ) (s : State) (e : Element) (c : Call) (used : ℕ) → Valid s → read (e .bytes) ≡ whole c used
+    → boxBy refuses (tables s) e .answer .code ≡ cond (eqb (e .outputSize) 1024) (refuses s c) 15
+unfolding boxBy laid unsound refusedAnswer stepOnBy readingBy stepBy
+code-is refuses s e c used v r =
+    rw (ready-is s (e .outputSize) v, state-tables s v, r)
+    (by-cases (eqb (e .outputSize) 1024) (λ x. rw x (settle-code (refuses s c) s c used)) (λ x. rw x))

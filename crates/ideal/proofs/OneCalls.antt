@@ -18,7 +18,7 @@ use Rattle.ideal.specs.Box.{Element, laid, callOn}
 use Rattle.ideal.specs.Valid.{Valid}
 use Rattle.ideal.specs.Refusals.{callerIn, isRow, holdsPair, lengthIn, rowFor}
 use Rattle.ideal.specs.History.{ones}
-use Rattle.ideal.specs.OneCall.{withPlacesIn, withShared, withLogRow, withEscrowRow, withReleased, leaves, countedNumber, shows, Done, OneCall}
+use Rattle.ideal.specs.OneCall.{withPlacesIn, withShared, withLogRow, withEscrowRow, withReleased, leaves, countedNumber, shows, Done, AcceptedCalls}
 use Rattle.lists.proofs.Bools.{by-cases, and-left, and-other, not-is, or-false-left, or-false-right}
 use Rattle.ideal.proofs.Passing.{failed, passed}
 use Rattle.ideal.proofs.Does.{busy, own-size, AttestPassed, attest-passed, protect-passed, ReleasePassed, release-passed}
@@ -36,9 +36,7 @@ use Rattle.ideal.proofs.HeapBytes.{flat-set}
 use Rattle.ideal.proofs.FoundRows.{pair-rows, found-row, value-found, position-found, log-found}
 use Rattle.ideal.proofs.Links.{chain-count}
 use Rattle.ideal.proofs.Laid.{state-tables}
-use Rattle.ideal.proofs.Numbers.{each-number, refusals-alter-nothing}
-use Rattle.ideal.proofs.Accepts.{on-state, accepted-answers}
-use Rattle.ideal.proofs.FirstFree.{handle-is-first-free}
+use Rattle.ideal.proofs.Accepts.{on-state}
 
 -- ---- the map of taken places
 
@@ -242,10 +240,9 @@ module _ (s : State) (k : Valid s) where
 
 -- ---- the promise, of the definition
 
-pub does : (t : Tables) (e : Element) (c : Call) (used : ℕ) → read (e .bytes) ≡ whole c used → callOn t e .answer .code ≡ 0
-    → Done t c (callOn t e)
+pub accepted-calls : AcceptedCalls callOn
 unfolding laid accepted
-does t e c used y z =
+accepted-calls t e c used y z =
     let s = stateOf t in
     let o = on-state t e c used y z in
     let n : callOn t e .answer .number ≡ number s c = ap (λ r. r .answer .number) (o .is) in
@@ -254,14 +251,4 @@ does t e c used y z =
       counted = λ m q. n ∙ counted s (o .valid) c m (ap (λ x. countedNumber x c) (o .back) ∙ q);
       shows =
           ap (λ r. r .answer .shown) (o .is) ∙ shows-is s (o .valid) c (o .passes) ∙ ap (λ x. shows x c) (o .back);
-    }
-
-pub one-call : OneCall callOn
-one-call =
-    record {
-      numbers = each-number;
-      alters-nothing = refusals-alter-nothing;
-      answers = accepted-answers;
-      handles-free = handle-is-first-free;
-      does = does;
     }

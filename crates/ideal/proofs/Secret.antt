@@ -182,7 +182,7 @@ pub record Both (z : Secrets) (s : State) (r : Reading) (o p : Outcome) : Type 0
   pub answer : let secret = z .heap (s .running) (caller s) in EqualAt (secret && chained r) secret (o .answer) (p .answer)
 
 -- a chain alters nothing and shows nothing
-still : (s : State) (n : ℕ) (c : Call) (u : ℕ) → eqb (filled c .kind) 15 ≡ true
+pub still : (s : State) (n : ℕ) (c : Call) (u : ℕ) → eqb (filled c .kind) 15 ≡ true
     → (settle n s c u .state ≡ s) × (settle n s c u .answer .used ≡ u) × (settle n s c u .answer .shown ≡ [])
 unfolding filled settle accepted refuse refusedAnswer effect move apply shown
 still s n (create p i) u e = absurd (false≢true e)
@@ -391,7 +391,7 @@ pub record Related (G : ℕ → Bool) (x y : Tables) : Type 0 where
   pub same : SameBut (held G) first second
 
 -- what is compared is compared under an exemption that leaves out no less
-exempt-more : {x y hidden : Bool} {a b : Answer} → (x ≡ true → y ≡ true) → EqualAt x hidden a b → EqualAt y hidden a b
+pub exempt-more : {x y hidden : Bool} {a b : Answer} → (x ≡ true → y ≡ true) → EqualAt x hidden a b → EqualAt y hidden a b
 exempt-more {x} {y} h q =
     let less : y ≡ false → x ≡ false = λ n. by-cases x (λ t. clash y (h t) n) (λ f. f) in
     record { code = λ n. q .code (less n); number = λ n. q .number (less n); used = q .used; shown = q .shown }

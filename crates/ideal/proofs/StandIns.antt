@@ -8,23 +8,25 @@ use native.Mathlib.Omega.{arith}
 use lib.ListN.{length, take}
 use Rattle.fnv.specs.declared.Tag.{Tag}
 use Rattle.record.specs.declared.Handle.{Handle}
-use Rattle.record.specs.Call.{Call, check}
+use Rattle.record.specs.Call.{Call, check, retrieve, chain, release}
 use Rattle.record.specs.Read.{whole, cut, read}
 use Rattle.ideal.specs.State.{Move}
 use Rattle.ideal.specs.Tables.{Tables, freshTables}
 use Rattle.ideal.specs.Box.{Element, Result, callOn, elementAt, tablesFrom, tablesAfter, tablesBefore, answerAt}
+use Rattle.ideal.specs.Refusals.{callerIn}
 use Rattle.ideal.specs.History.{added, pastFrom, pastOf, pairs, protects, ones, AsThePast, HistoryHolds, Accepts, Shows, Reports}
-use Rattle.ideal.specs.Accuracy.{Earlier, LogsAt, ProtectsAt, Says, CheckIsAccurate, HandleOnce}
+use Rattle.ideal.specs.Accuracy.{HeldBefore, Says, Sized, Runs, HandsOut, CheckAt, RetrieveAt, ReleaseAt, ChainAt, HandleOnce}
 use Rattle.ideal.proofs.Numbers.{refusals-alter-nothing}
 use Rattle.ideal.proofs.Histories.{history-holds, reports}
-use Rattle.ideal.proofs.Accurate.{check-is-accurate, handle-once}
+use Rattle.ideal.proofs.Accurate.{check-is-accurate, retrieve-is-accurate, release-is-accurate, chain-is-accurate, handle-once}
 use Rattle.ideal.proofs.OneAnswer.{accepted-reads}
-use Rattle.ideal.proofs.FixedRuns.{refused-adds, alike-same, logs-too, protects-too}
+use Rattle.ideal.proofs.Befores.{alike-same, SameCalls, same-calls, SameBefore, back-before, logged-too, held-too, custody-too}
+use Rattle.ideal.proofs.FixedRuns.{refused-adds}
 
 -- ---- an element that reads to no call
 
 abbrev unread : Element → Element
-unread e = record { bytes = []; outputSize = e .outputSize }
+unread e = record { bytes = []; outputSize = e .outputSize; profile = e .profile }
 
 none-read : (c : Call) (used : ℕ) → read [] ≡ whole c used → ⊥
 unfolding read cut
@@ -174,26 +176,50 @@ module _ {box : Tables → Element → Result} {Bars : Tables → Element → Ty
       agree-unbarred : (Bars (tablesBefore box es k) (elementAt es k) → ⊥) → Agree
       agree-unbarred n = elim at-index [ same a ↦ a | other b f m ↦ absurd (n b) ]
 
-      logs-in-full : {i : ℕ} {v : List ℕ} {g : Tag} → LogsAt box es i v g k → LogsAt callOn fs i v g k
-      logs-in-full l =
-          let a = agree-accepted (l .accepts) in
-          logs-too box callOn es fs k (sym (a .element)) (sym tables-before) (alike-same (sym (a .answer))) l
+      calls-here : SameCalls callOn box fs es k
+      calls-here =
+          let at : Agree → SameCalls callOn box fs es k = λ a. same-calls callOn box fs es k (a .element) tables-before (alike-same (a .answer)) in
+          record {
+            logs = λ l. at (agree-read (l .reads)) .logs l;
+            protects = λ l. at (agree-read (l .reads)) .protects l;
+            releases = λ l. at (agree-read (l .reads)) .releases l;
+          }
 
-      logs-here : {i : ℕ} {v : List ℕ} {g : Tag} → LogsAt callOn fs i v g k → LogsAt box es i v g k
-      logs-here l =
-          let a = agree-read (l .reads) in
-          logs-too callOn box fs es k (a .element) tables-before (alike-same (a .answer)) l
+      pub calls-in-full : SameCalls box callOn es fs k
+      calls-in-full =
+          let at : Agree → SameCalls box callOn es fs k =
+          λ a. same-calls box callOn es fs k (sym (a .element)) (sym tables-before) (alike-same (sym (a .answer))) in
+          record {
+            logs = λ l. at (agree-accepted (l .accepts)) .logs l;
+            protects = λ l. at (agree-accepted (l .accepts)) .protects l;
+            releases = λ l. at (agree-accepted (l .accepts)) .releases l;
+          }
 
-      protects-in-full : {i r : ℕ} {h : Handle} {v : List ℕ} → ProtectsAt box es i r h v k → ProtectsAt callOn fs i r h v k
-      protects-in-full l =
-          let a = agree-accepted (l .accepts) in
-          protects-too box callOn es fs k (sym (a .element)) (sym tables-before) (alike-same (sym (a .answer))) l
+    pub before : (k : ℕ) → SameBefore callOn box fs es k
+    before k =
+        record { caller = ap (λ t. callerIn t) (tables-before k); there = λ j l. calls-here j; back = λ j l. calls-in-full j }
 
-    pub logged-before : {i : ℕ} {v : List ℕ} {g : Tag} (k : ℕ) → Earlier (LogsAt callOn fs i v g) k ↔ Earlier (LogsAt box es i v g) k
-    logged-before k = (
-      λ x. record { index = x .index; before = x .before; there = logs-here (x .index) (x .there) },
-      λ x. record { index = x .index; before = x .before; there = logs-in-full (x .index) (x .there) },
-    )
+    -- what is said of a call that is the same in both runs, with what was so before it
+    module _ (k : ℕ) (a : Agree k) where
+      sized : Sized callOn fs k ↔ Sized box es k
+      sized = (λ z. sym (output-same k) ∙ z, λ z. output-same k ∙ z)
+
+      runs : Runs callOn fs k ↔ Runs box es k
+      runs =
+          let q = ap (λ t. t .box .running) (tables-before k) in
+          (λ f z. f (q ∙ z), λ f z. f (sym q ∙ z))
+
+      says : (n : ℕ) → Says callOn fs n k ↔ Says box es n k
+      says n = (
+        λ x. subst (λ y. (y .code ≡ 0) × (y .number ≡ n)) (a .answer) x,
+        λ x. subst (λ y. (y .code ≡ 0) × (y .number ≡ n)) (sym (a .answer)) x,
+      )
+
+      code : (n : ℕ) → (answerAt callOn fs k .code ≡ n) ↔ (answerAt box es k .code ≡ n)
+      code n = let q = ap (λ x. x .code) (a .answer) in (λ z. sym q ∙ z, λ z. q ∙ z)
+
+      read-there : {c : Call} {used : ℕ} → read (elementAt es k .bytes) ≡ whole c used → read (elementAt fs k .bytes) ≡ whole c used
+      read-there r = ap (λ x. read (x .bytes)) (a .element) ∙ r
 
   -- ---- the statements
 
@@ -202,7 +228,7 @@ module _ {box : Tables → Element → Result} {Bars : Tables → Element → Ty
 
   pub handles-once : HandleOnce box
   handles-once es h i₁ r₁ i₂ r₂ v₁ v₂ k₁ k₂ a b =
-      handle-once (fs es) h i₁ r₁ i₂ r₂ v₁ v₂ k₁ k₂ (protects-in-full es k₁ a) (protects-in-full es k₂ b)
+      handle-once (fs es) h i₁ r₁ i₂ r₂ v₁ v₂ k₁ k₂ (calls-in-full es k₁ .protects a) (calls-in-full es k₂ .protects b)
 
   -- an accepted call, in the run of the full box
   accepts-in-full : (es : List Element) (k : ℕ) (c : Call) (used : ℕ) → Accepts box es k c used → Accepts callOn (fs es) k c used
@@ -231,25 +257,103 @@ module _ {box : Tables → Element → Result} {Bars : Tables → Element → Ty
             + 65536 * length (protects (past-before es k i)));
       }
 
-  module _ (none : (t : Tables) (e : Element) (i : ℕ) (g : Tag) (v : List ℕ) (used : ℕ) → read (e .bytes) ≡ whole (check i g v) used
-      → Bars t e → ⊥) where
-    pub checks-kept : CheckIsAccurate box
-    checks-kept es k i g v used r =
-        let a = agree-unbarred es k (none _ (elementAt es k) i g v used r) in
-        let c = check-is-accurate (fs es) k i g v used (ap (λ x. read (x .bytes)) (a .element) ∙ r) in
-        let size = output-same es k in
-        let log = logged-before es {i = i} {v = v} {g = g} k in
-        let here : (n : ℕ) → Says callOn (fs es) n k → Says box es n k =
-        λ n x. subst (λ y. (y .code ≡ 0) × (y .number ≡ n)) (a .answer) x in
-        let there : (n : ℕ) → Says box es n k → Says callOn (fs es) n k =
-        λ n x. subst (λ y. (y .code ≡ 0) × (y .number ≡ n)) (sym (a .answer)) x in
+  -- those of one call at an index, where it is not barred
+  module _ (es : List Element) (k : ℕ) (free : Bars (tablesBefore box es k) (elementAt es k) → ⊥) where
+    abbrev here : Agree es k
+    here = agree-unbarred es k free
+
+    abbrev past : SameBefore callOn box (fs es) es k
+    past = before es k
+
+    held : {i : ℕ} {h : Handle} {v : List ℕ} → HeldBefore callOn (fs es) k i h v ↔ HeldBefore box es k i h v
+    held = (held-too past, held-too (back-before past))
+
+    pub check-kept : (i : ℕ) (g : Tag) (v : List ℕ) (used : ℕ) → read (elementAt es k .bytes) ≡ whole (check i g v) used
+        → CheckAt box es k i g v
+    check-kept i g v used r =
+        let c = check-is-accurate (fs es) k i g v used (read-there es k here r) in
+        let size = sized es k here in
+        let there = logged-too past in
+        let back = logged-too (back-before past) in
         record {
           yes = (
-            λ x. let y = c .yes .0 (there 1 x) in (sym size ∙ y .0, log .0 (y .1)),
-            λ x. here 1 (c .yes .1 (size ∙ x .0, log .1 (x .1))),
+            λ x. let y = c .yes .0 (says es k here 1 .1 x) in (size .0 (y .0), there (y .1)),
+            λ x. says es k here 1 .0 (c .yes .1 (size .1 (x .0), back (x .1))),
           );
           no = (
-            λ x. let y = c .no .0 (there 0 x) in (sym size ∙ y .0, y .1, λ z. y .2 (log .1 z)),
-            λ x. here 0 (c .no .1 (size ∙ x .0, x .1, λ z. x .2 (log .0 z))),
+            λ x. let y = c .no .0 (says es k here 0 .1 x) in (size .0 (y .0), y .1, λ z. y .2 (back z)),
+            λ x. says es k here 0 .0 (c .no .1 (size .1 (x .0), x .1, λ z. x .2 (there z))),
           );
+        }
+
+    absent : (i : ℕ) (h : Handle)
+        → (answerAt callOn (fs es) k .code ≡ 10)
+        ↔ (Sized callOn (fs es) k × Runs callOn (fs es) k × (i ≡ 0 → ⊥) × ((v : List ℕ) → HeldBefore callOn (fs es) k i h v → ⊥))
+        → (answerAt box es k .code ≡ 10)
+        ↔ (Sized box es k × Runs box es k × (i ≡ 0 → ⊥) × ((v : List ℕ) → HeldBefore box es k i h v → ⊥))
+    absent i h q =
+        let size = sized es k here in
+        let run = runs es k here in (
+          λ x. let y = q .0 (code es k here 10 .1 x) in (size .0 (y .0), run .0 (y .1), y .2, λ v z. y .3 v (held .1 z)),
+          λ x. code es k here 10 .0 (q .1 (size .1 (x .0), run .1 (x .1), x .2, λ v z. x .3 v (held .0 z))),
+        )
+
+    pub release-kept : (i : ℕ) (h : Handle) (used : ℕ) → read (elementAt es k .bytes) ≡ whole (release i h) used
+        → ReleaseAt box es k i h
+    release-kept i h used r =
+        let c = release-is-accurate (fs es) k i h used (read-there es k here r) in
+        let size = sized es k here in
+        record {
+          gives-up = (
+            λ x. let y = c .gives-up .0 (says es k here 0 .1 x) in (size .0 (y .0), y .1, held .0 (y .2)),
+            λ x. says es k here 0 .0 (c .gives-up .1 (size .1 (x .0), x .1, held .1 (x .2))),
+          );
+          not-there = absent i h (c .not-there);
+        }
+
+    pub chain-kept : (w i x : ℕ) (v : List ℕ) (used : ℕ) → read (elementAt es k .bytes) ≡ whole (chain w i x v) used
+        → ChainAt box es k (record { way = w; identity = i; number = x }) v
+    chain-kept w i x v used r n =
+        let c = chain-is-accurate (fs es) k w i x v used (read-there es k here r) n in
+        let size = sized es k here in
+        let run = runs es k here in (
+          λ y. let z = c .0 (says es k here n .1 y) in (size .0 (z .0), run .0 (z .1), custody-too past (z .2)),
+          λ y. says es k here n .0 (c .1 (size .1 (y .0), run .1 (y .1), custody-too (back-before past) (y .2))),
+        )
+
+    hands : (o : ℕ) (v : List ℕ) → HandsOut callOn (fs es) o v k ↔ HandsOut box es o v k
+    hands o v =
+        let before = tables-before es k in
+        let after = tables-before es (suc k) in (
+          λ x.
+              record {
+                accepts = says es k here (length v) .0 (x .accepts);
+                stands = rw after at (x .stands);
+                alters = rw (before, after) at (x .alters);
+              },
+          λ x.
+              record {
+                accepts = says es k here (length v) .1 (x .accepts);
+                stands = rw after (x .stands);
+                alters = rw (before, after) (x .alters);
+              },
+        )
+
+    pub retrieve-kept : (i o : ℕ) (h : Handle) (used : ℕ) → read (elementAt es k .bytes) ≡ whole (retrieve i o h) used
+        → RetrieveAt box es k i o h
+    retrieve-kept i o h used r =
+        let c = retrieve-is-accurate (fs es) k i o h used (read-there es k here r) in
+        let size = sized es k here in
+        record {
+          hands-out = λ v. (
+            λ x. let y = c .hands-out v .0 (hands o v .1 x) in (size .0 (y .0), held .0 (y .1), y .2),
+            λ x. hands o v .0 (c .hands-out v .1 (size .1 (x .0), held .1 (x .1), x .2)),
+          );
+          one-value = λ v w x y. c .one-value v w (held .1 x) (held .1 y);
+          not-there = absent i h (c .not-there);
+          too-far = λ v x.
+              let q = c .too-far v (held .1 x) in (
+                λ y. let z = q .0 (code es k here 11 .1 y) in (size .0 (z .0), z .1),
+                λ y. code es k here 11 .0 (q .1 (size .1 (y .0), y .1)),
+              );
         }

@@ -73,6 +73,7 @@ record Computed : Type 0 where
   same₀ : elementAt (elements 0) 0 ≡ elementAt (elements 1) 0
   same₁ : elementAt (elements 0) 1 ≡ elementAt (elements 1) 1
   size₂ : elementAt (elements 0) 2 .outputSize ≡ elementAt (elements 1) 2 .outputSize
+  profile₂ : elementAt (elements 0) 2 .profile ≡ elementAt (elements 1) 2 .profile
   same₃ : elementAt (elements 0) 3 ≡ elementAt (elements 1) 3
   runs : groupRuns group (tables (stateBefore (elements 0) 2)) ≡ true
   handle₁ : handleFor 0 ≡ 2 ^ 48 + 7
@@ -90,6 +91,7 @@ computed =
       same₀ = refl;
       same₁ = refl;
       size₂ = refl;
+      profile₂ = refl;
       same₃ = refl;
       runs = refl;
       handle₁ = refl;
@@ -125,6 +127,7 @@ module _ (c : Computed) where
             reads₁ = c .reads₂ 0;
             reads₂ = c .reads₂ 1;
             outputSize = c .size₂;
+            profile = c .profile₂;
           })
       at (suc (suc (suc zero))) l = same (c .same₃)
       at (suc (suc (suc (suc k)))) l = absurd (omega (arith, c .size 0))

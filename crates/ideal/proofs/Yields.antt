@@ -16,6 +16,7 @@ use Rattle.ideal.specs.LevelOne.{levelOneRefusal, levelOneOn}
 use Rattle.lists.proofs.Bools.{by-cases}
 use Rattle.ideal.proofs.Laid.{tables-state}
 use Rattle.ideal.proofs.Numbers.{sound-of}
+use Rattle.ideal.proofs.OneAnswer.{box-settles}
 use Rattle.ideal.proofs.OwnRefusals.{barredWith, level-one}
 
 -- level one's own refusal of what is read; 0 where it has none
@@ -35,12 +36,6 @@ pub data Yields (t : Tables) (e : Element) : Type 0 where
   as-full : barredIn t e ≡ 0 → levelOneOn t e ≡ callOn t e → Yields t e
   barred : Sound t (e .outputSize) → (c : Call) (used : ℕ) → read (e .bytes) ≡ whole c used → barredIn t e ≡ barredWith (stateOf t) c
       → eqb (barredWith (stateOf t) c) 0 ≡ false → levelOneOn t e ≡ refusedOn t (barredWith (stateOf t) c) used → Yields t e
-
--- a call that is read, on a sound box
-pub box-settles : (refuses : State → Call → ℕ) (t : Tables) (e : Element) → Sound t (e .outputSize) → (c : Call) (used : ℕ)
-    → read (e .bytes) ≡ whole c used → boxBy refuses t e ≡ laid (settle (refuses (stateOf t) c) (stateOf t) c used)
-unfolding boxBy stepOnBy readingBy stepBy
-box-settles refuses t e h c used r = rw (h .sizes, h .box, r)
 
 settle-refuses : (n : ℕ) (s : State) (c : Call) (used : ℕ) → eqb n 0 ≡ false → settle n s c used ≡ refuse s n 0 used
 unfolding settle

@@ -174,6 +174,10 @@ module _ (box : Tables → Element → Result) (es : List Element) where
     pub vouched : (j : ℕ) → j < n → Vouched k (linkAt links j)
     pub bytes : ChainBytes links chainBytes
 
+  -- a chain is accepted with n exactly when a program runs and there are n such links
+  abbrev pub ChainAt : ℕ → Link → List ℕ → Type 0
+  ChainAt k first chainBytes = (n : ℕ) → Says n k ↔ (Sized k × Runs k × Custody k first chainBytes n)
+
 -- f taken k times, from x
 unfoldable pub iterate : (ℕ → ℕ) → ℕ → ℕ → ℕ
 iterate f zero x = x
@@ -214,12 +218,10 @@ module _ (box : Tables → Element → Result) where
   ReleaseIsAccurate = (es : List Element) (k source : ℕ) (handle : Handle) (used : ℕ)
       → read (elementAt es k .bytes) ≡ whole (release source handle) used → ReleaseAt box es k source handle
 
-  -- a chain is accepted with n exactly when a program runs and there are n such links
   abbrev pub ChainIsAccurate : Type 0
   ChainIsAccurate = (es : List Element) (k way identity number : ℕ) (v : List ℕ) (used : ℕ)
-      → read (elementAt es k .bytes) ≡ whole (chain way identity number v) used → (n : ℕ)
-      → Says box es n k
-      ↔ (Sized box es k × Runs box es k × Custody box es k (record { way = way; identity = identity; number = number }) v n)
+      → read (elementAt es k .bytes) ≡ whole (chain way identity number v) used
+      → ChainAt box es k (record { way = way; identity = identity; number = number }) v
 
   -- no handle is given twice, though its value be released
   abbrev pub HandleOnce : Type 0

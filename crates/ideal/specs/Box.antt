@@ -4,15 +4,23 @@ use mathlib.Core.Bool.{_&&_, cond}
 use mathlib.Core.List.{List, [], _∷_, _++_}
 use lib.ListN.{length, getD, take, drop}
 use Rattle.record.specs.Call.{Call}
+use Rattle.ideal.specs.declared.Profile.{Profile}
+use Rattle.ideal.specs.declared.Profile.the-variants.{Full}
 use Rattle.ideal.specs.State.{State}
 use Rattle.ideal.specs.Step.{Answer, Stepped, refusedAnswer, refusal, stepOnBy}
 use Rattle.ideal.specs.Tables.{Tables, tables, stateOf, freshTables}
 use Rattle.ideal.specs.Soundness.{sizesRight, sound}
 
--- what a call is given besides the tables: any bytes to read as a record, and the size of the output buffer
+-- what a call is given besides the tables: any bytes to read as a record, the size of the output buffer, and its profile
+-- (document 02, P5), at which a box of one profile does not look
 pub record Element : Type 0 where
   pub bytes : List ℕ
   pub outputSize : ℕ
+  pub profile : Profile
+
+-- for a box of one profile
+abbrev pub given : (bytes : List ℕ) → (outputSize : ℕ) → Element
+given bytes size = record { bytes = bytes; outputSize = size; profile = Full }
 
 pub record Result : Type 0 where
   pub tables : Tables
@@ -42,7 +50,7 @@ outputAfter a output = a .shown ++ drop (length (a .shown)) output
 -- ---- runs: each call gets the tables as the one before left them, refused or not
 
 unfoldable pub elementAt : List Element → ℕ → Element
-elementAt es k = getD es k (record { bytes = []; outputSize = 0 })
+elementAt es k = getD es k (given [] 0)
 
 module _ (box : Tables → Element → Result) where
   unfoldable pub tablesFrom : Tables → List Element → Tables

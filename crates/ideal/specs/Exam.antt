@@ -5,7 +5,7 @@ use mathlib.Core.Path.{_≡_}
 use mathlib.Core.List.{List, [], _∷_, map}
 use Rattle.ideal.specs.Step.{Answer}
 use Rattle.ideal.specs.Tables.{freshTables}
-use Rattle.ideal.specs.Box.{Element, callOn, answersFrom}
+use Rattle.ideal.specs.Box.{Element, given, callOn, answersFrom}
 
 infix 80 _gives_
 -- the n bytes of a record, as they are written in hexadecimal
@@ -23,7 +23,7 @@ says code number used shown = record { code = code; number = number; used = used
 
 -- an output buffer of its size is lent
 unfoldable pub _gives_ : List ℕ → Answer → Question
-bytes gives answer = record { element = record { bytes = bytes; outputSize = 1024 }; answer = answer }
+bytes gives answer = record { element = given bytes 1024; answer = answer }
 
 unfoldable pub questions : List Question
 questions =
@@ -146,7 +146,7 @@ questions =
     -- shared read: the last six
     ∷ hex 6 0x19_08_FA03_0600 gives says 0 6 6 (hex 6 0x0076616C7565)
     -- report, with an output buffer of 1,023 bytes
-    ∷ record { element = record { bytes = hex 2 0x01_0D; outputSize = 1023 }; answer = says 15 0 0 [] }
+    ∷ record { element = given (hex 2 0x01_0D) 1023; answer = says 15 0 0 [] }
     -- with the map of a hand over
     ∷ hex 3 0x03_0D_00 gives says 3 0 0 []
     -- hand over to 16 with one running

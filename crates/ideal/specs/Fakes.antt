@@ -2,7 +2,8 @@
 -- secrecy; and demand 3 shuts out a definition in which a heap byte steers the handle, and those in which a number tells one
 -- where it is compared.
 use Prim.Native.Nat.{ℕ, _+_, _*_, _%_}
-use mathlib.Core.Bool.{cond, _&&_}
+use mathlib.Core.Path.{_≡_}
+use mathlib.Core.Bool.{Bool, true, not, cond, _&&_}
 use mathlib.Core.List.{[], reverse}
 use lib.ListN.{getD, set}
 use lib.Dec.{eqb, ltb}
@@ -11,7 +12,11 @@ use Rattle.record.specs.Write.{filled}
 use Rattle.ideal.specs.Step.{withCommon}
 use Rattle.ideal.specs.Tables.{Tables, tables, stateOf}
 use Rattle.ideal.specs.Box.{Element, Result, callOn}
-use Rattle.ideal.specs.Refusals.{callerIn}
+use Rattle.ideal.specs.Refusals.{callerIn, EachNumber}
+use Rattle.ideal.specs.Answers.{AcceptedAnswers}
+use Rattle.ideal.specs.History.{HistoryHolds, Reports}
+use Rattle.ideal.specs.Accuracy.{RetrieveIsAccurate}
+use Rattle.ideal.specs.OneCall.{AcceptedCalls}
 use Rattle.ideal.specs.Secrecy.{Secrecy}
 use Rattle.ideal.specs.Demands.{Demand2}
 
@@ -28,78 +33,109 @@ usedIn (whole c used) = used
 unfoldable pub reply : Tables → (code number used : ℕ) → Result
 reply t code number used = record { tables = t; answer = record { code = code; number = number; used = used; shown = [] } }
 
--- the definition, but for one kind whose calls get a reply without looking
-unfoldable pub instead : (kind code number : ℕ) → Tables → Element → Result
-instead kind code number t e =
-    let r = read (e .bytes) in
-    cond (eqb (kindIn r) kind) (reply t code number (usedIn r)) (callOn t e)
+-- ---- the fakes: each is the definition, but where that accepts a call, and keeps the bytes used
 
--- ---- the fakes
+-- another result where the test holds
+unfoldable pub faked : (Tables → Element → Bool) → (Tables → Element → Result) → Tables → Element → Result
+faked test fake t e = cond (eqb (callOn t e .answer .code) 0 && test t e) (fake t e) (callOn t e)
+
+abbrev pub always : Tables → Element → Bool
+always t e = true
+
+abbrev pub ofKind : ℕ → Tables → Element → Bool
+ofKind kind t e = eqb (kindIn (read (e .bytes))) kind
+
+-- a reply without looking
+abbrev pub says : (code number : ℕ) → Tables → Element → Result
+says code number t e = reply t code number (usedIn (read (e .bytes)))
 
 abbrev pub refusesEach : Tables → Element → Result
-refusesEach t e = reply t 4 0 0
+refusesEach = faked always (says 4 0)
 
-abbrev pub fixedReply : Tables → Element → Result
-fixedReply t e = reply t 0 0 2
+-- a reply with the right tables
+abbrev pub carriesOut : (number : ℕ) → Tables → Element → Result
+carriesOut number t e = reply (callOn t e .tables) 0 number (usedIn (read (e .bytes)))
 
--- the right answers, and nothing else
+abbrev pub fixedReply : ℕ → Tables → Element → Result
+fixedReply n = faked always (carriesOut n)
+
+-- the answers are right
 abbrev pub touchesNothing : Tables → Element → Result
 touchesNothing t e = record { tables = t; answer = callOn t e .answer }
 
--- the definition while no place is taken, then a fixed reply
+-- the definition while no place is taken
 abbrev pub servesTheFirst : Tables → Element → Result
-servesTheFirst t e = cond (eqb (t .box .taken) 0) (callOn t e) (reply t 0 0 2)
+servesTheFirst = faked (λ t e. not (eqb (t .box .taken) 0)) (says 0 0)
 
-abbrev pub inventsTotals : Tables → Element → Result
-inventsTotals = instead 13 0 7
+abbrev pub inventsTotals : ℕ → Tables → Element → Result
+inventsTotals n = faked (ofKind 13) (says 0 n)
 
 abbrev pub saysNotThere : Tables → Element → Result
-saysNotThere = instead 12 10 0
+saysNotThere = faked (ofKind 12) (says 10 0)
 
 abbrev pub saysLogFull : Tables → Element → Result
-saysLogFull = instead 9 13 0
+saysLogFull = faked (ofKind 9) (says 13 0)
 
 abbrev pub saysEscrowFull : Tables → Element → Result
-saysEscrowFull = instead 11 14 0
+saysEscrowFull = faked (ofKind 11) (says 14 0)
 
 -- the definition until 40 rows are used
 abbrev pub recoversNothingLater : Tables → Element → Result
-recoversNothingLater t e = cond (ltb 40 (t .box .escrow .rows)) (saysNotThere t e) (callOn t e)
+recoversNothingLater = faked (λ t e. ofKind 12 t e && ltb 40 (t .box .escrow .rows)) (says 10 0)
 
--- the definition, but a report turns the log round: the counts are right, and the box is sound
+-- a report turns the log round: the counts are right, and the box is sound
 unfoldable pub turned : Tables → Tables
 turned t =
     let s = stateOf t in
     tables (withCommon s (s .shared) (reverse (s .log)) (s .escrow))
 
 abbrev pub turnsLogRound : Tables → Element → Result
-turnsLogRound t e =
-    cond (eqb (kindIn (read (e .bytes))) 13) (record { tables = turned t; answer = callOn t e .answer }) (callOn t e)
+turnsLogRound = faked (ofKind 13) (λ t e. record { tables = turned t; answer = callOn t e .answer })
+
+-- a box that refuses each call
+abbrev pub NeverAccepts : (Tables → Element → Result) → Type 0
+NeverAccepts box = (t : Tables) (e : Element) → box t e .answer .code ≡ 0 → ⊥
+
+-- the part of demand 2 that each falls to
+pub record Faults : Type 0 where
+  -- every box that refuses each call, and the fake does
+  pub refuses-each : (box : Tables → Element → Result) → NeverAccepts box → EachNumber box → ⊥
+  pub never-accepts : NeverAccepts refusesEach
+  -- whatever the reply, and whatever the total
+  pub fixed-reply : (n : ℕ) → AcceptedAnswers (fixedReply n) → ⊥
+  pub invents-totals : (n : ℕ) → Reports (inventsTotals n) → ⊥
+  pub touches-nothing : HistoryHolds touchesNothing → ⊥
+  pub serves-the-first : HistoryHolds servesTheFirst → ⊥
+  pub says-not-there : RetrieveIsAccurate saysNotThere → ⊥
+  pub recovers-nothing-later : RetrieveIsAccurate recoversNothingLater → ⊥
+  pub says-log-full : EachNumber saysLogFull → ⊥
+  pub says-escrow-full : EachNumber saysEscrowFull → ⊥
+  -- this one document 01 does not name
+  pub turns-log-round : AcceptedCalls turnsLogRound → ⊥
 
 pub record ShutOut : Type 0 where
-  pub refuses-each : Demand2 refusesEach → ⊥
-  pub fixed-reply : Demand2 fixedReply → ⊥
+  pub refuses-each : (box : Tables → Element → Result) → NeverAccepts box → Demand2 box → ⊥
+  pub fixed-reply : (n : ℕ) → Demand2 (fixedReply n) → ⊥
+  pub invents-totals : (n : ℕ) → Demand2 (inventsTotals n) → ⊥
   pub touches-nothing : Demand2 touchesNothing → ⊥
   pub serves-the-first : Demand2 servesTheFirst → ⊥
-  pub invents-totals : Demand2 inventsTotals → ⊥
   pub says-not-there : Demand2 saysNotThere → ⊥
+  pub recovers-nothing-later : Demand2 recoversNothingLater → ⊥
   pub says-log-full : Demand2 saysLogFull → ⊥
   pub says-escrow-full : Demand2 saysEscrowFull → ⊥
-  pub recovers-nothing-later : Demand2 recoversNothingLater → ⊥
-  -- this one document 01 does not name
   pub turns-log-round : Demand2 turnsLogRound → ⊥
 
 -- demand 3 shuts out none of them
 pub record SatisfySecrecy : Type 0 where
   pub refuses-each : Secrecy refusesEach
-  pub fixed-reply : Secrecy fixedReply
+  pub fixed-reply : (n : ℕ) → Secrecy (fixedReply n)
+  pub invents-totals : (n : ℕ) → Secrecy (inventsTotals n)
   pub touches-nothing : Secrecy touchesNothing
   pub serves-the-first : Secrecy servesTheFirst
-  pub invents-totals : Secrecy inventsTotals
   pub says-not-there : Secrecy saysNotThere
+  pub recovers-nothing-later : Secrecy recoversNothingLater
   pub says-log-full : Secrecy saysLogFull
   pub says-escrow-full : Secrecy saysEscrowFull
-  pub recovers-nothing-later : Secrecy recoversNothingLater
   pub turns-log-round : Secrecy turnsLogRound
 
 -- ---- a heap byte steers the handle
@@ -108,7 +144,7 @@ pub record SatisfySecrecy : Type 0 where
 unfoldable pub steered : Tables → Element → Element
 steered t e =
     let raised = (getD (e .bytes) 14 0 + getD (t .heaps) (256 * t .box .running) 0) % 256 in
-    cond (eqb (kindIn (read (e .bytes))) 11) (record { bytes = set (e .bytes) 14 raised; outputSize = e .outputSize }) e
+    cond (eqb (kindIn (read (e .bytes))) 11) (record { bytes = set (e .bytes) 14 raised; outputSize = e .outputSize; profile = e .profile }) e
 
 unfoldable pub byteSteers : Tables → Element → Result
 byteSteers t e = callOn t (steered t e)

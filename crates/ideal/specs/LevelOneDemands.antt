@@ -4,7 +4,7 @@ use Prim.Native.Nat.{ℕ, _+_, _≤_, _<_}
 use mathlib.Core.Path.{_≡_}
 use mathlib.Core.Logic.{_↔_}
 use mathlib.Core.Bool.{Bool, true, false}
-use mathlib.Core.List.{List, [], _∷_}
+use mathlib.Core.List.{List, [], _∷_, map}
 use lib.ListN.{getD}
 use Rattle.fnv.specs.declared.Tag.{Tag}
 use Rattle.record.specs.declared.Handle.{Handle}
@@ -12,18 +12,21 @@ use Rattle.record.specs.declared.Draw.{Draw}
 use Rattle.record.specs.Call.{Call, create, attest, protect, retrieve, handOver, chain, release}
 use Rattle.record.specs.Read.{whole, read}
 use Rattle.record.specs.Write.{filled}
-use Rattle.ideal.specs.declared.Profile.the-variants.{Full, LevelOne}
 use Rattle.ideal.specs.Tables.{Tables, logTable}
 use Rattle.ideal.specs.State.{part}
 use Rattle.ideal.specs.Layouts.{Sound, StaysSound}
-use Rattle.ideal.specs.Box.{Element, Result, callOn, outputAfter, elementAt, tablesAfter, tablesBefore, answerAt}
+use Rattle.ideal.specs.Box.{Element, Result, callOn, elementAt, tablesAfter, tablesBefore, answerAt}
 use Rattle.ideal.specs.Refusals.{callerIn, ownBytes, oneOf, EachNumberBy, RefusalsAlterNothing}
-use Rattle.ideal.specs.Answers.{AcceptedAnswers}
 use Rattle.ideal.specs.History.{HistoryHolds, Reports}
-use Rattle.ideal.specs.Accuracy.{Earlier, LogsAt, Sized, Runs, HandsOutWhen, CheckIsAccurate, LongCheckIsNo, HandleOnce, HandleIsFirstFree}
-use Rattle.ideal.specs.Secrecy.{Secrecy}
-use Rattle.ideal.specs.Demands.{Demand1By}
-use Rattle.ideal.specs.LevelOne.{levelOneOn, boxOf, levelOneConditions}
+use Rattle.ideal.specs.Accuracy.{Earlier, LogsAt, Sized, Runs, HandsOutWhen, CheckIsAccurate, HandleOnce}
+use Rattle.ideal.specs.Secrecy.{Exemption, SecrecyBut, Secrecy}
+use Rattle.ideal.specs.Witness.{element, callsWithout, Differing}
+use Rattle.ideal.specs.Demands.{Demand1By, EachCallBy}
+use Rattle.ideal.specs.LevelOne.{levelOneOn, levelOneConditions}
+
+-- every answer is compared
+abbrev pub noneExempt : Exemption
+noneExempt G t e = false
 
 -- one of the three refusals
 unfoldable pub barring : ℕ → Bool
@@ -62,11 +65,10 @@ pub record LowPlaces (t : Tables) : Type 0 where
   pub escrow : t .box .escrow .rows ≡ 0
 
 module _ (box : Tables → Element → Result) where
-  -- a call that gets none of the three: answer, tables and output buffer are the full box's
+  -- a call that gets none of the three: answer and tables are the full box's
   pub record AsInFull (t : Tables) (e : Element) : Type 0 where
     pub answer : box t e .answer ≡ callOn t e .answer
     pub tables : box t e .tables ≡ callOn t e .tables
-    pub output : (out : List ℕ) → outputAfter (box t e .answer) out ≡ outputAfter (callOn t e .answer) out
 
   -- whatever its kind, and whatever the tables
   abbrev pub ElseFull : Type 0
@@ -118,16 +120,13 @@ module _ (box : Tables → Element → Result) where
 
   -- demand 2, over runs of this box from a fresh box; what demand 2 says of any box, of any
   pub record LevelOneAccuracy : Type 0 where
-    -- by the level-one table
-    pub refuses-no-more : EachNumberBy box levelOneConditions
+    -- of one call, by the level-one table
+    pub call : EachCallBy levelOneConditions box
     -- word for word
     pub checks : CheckIsAccurate box
-    pub long-checks : LongCheckIsNo box
     pub handles-once : HandleOnce box
-    pub handles-free : HandleIsFirstFree box
     pub holds : HistoryHolds box
     pub reports : Reports box
-    pub answers : AcceptedAnswers box
     -- yielding to 21
     pub barred : EscrowIsBarred
     pub retrieves : RetrieveHandsOut
@@ -143,15 +142,17 @@ module _ (box : Tables → Element → Result) where
     pub stays-sound : StaysSound box
     pub one : Demand1By levelOneConditions box
     pub two : LevelOneAccuracy
-    -- the very statement of demand 3
-    pub three : Secrecy box
+    -- demand 3, where no answer is exempt, so that its very statement holds too
+    pub three : SecrecyBut noneExempt box
+    pub secrecy : Secrecy box
+
+-- demand 3's premises can be met without escrow; the byte is the second of place 0
+abbrev pub MetWithoutEscrow : (Tables → Element → Result) → Type 0
+MetWithoutEscrow box = Differing box (map element (callsWithout 66)) (map element (callsWithout 67)) 1
 
 -- no other box has these: on any tables, sound or not
-abbrev pub LevelOneFixed : Type 0
-LevelOneFixed = (box : Tables → Element → Result) → ElseFull box → EachNumberBy box levelOneConditions → RefusalsAlterNothing box
-    → (t : Tables) (e : Element) → box t e ≡ levelOneOn t e
-
--- which box each profile is
-pub record ProfilesAre : Type 0 where
-  pub full : boxOf Full ≡ callOn
-  pub level-one : boxOf LevelOne ≡ levelOneOn
+pub record LevelOneFixed : Type 0 where
+  pub by-demands : (box : Tables → Element → Result) → Demand1By levelOneConditions box → EachCallBy levelOneConditions box
+      → (t : Tables) (e : Element) → box t e ≡ levelOneOn t e
+  pub by-full : (box : Tables → Element → Result) → ElseFull box → EachNumberBy box levelOneConditions → RefusalsAlterNothing box
+      → (t : Tables) (e : Element) → box t e ≡ levelOneOn t e

@@ -18,6 +18,7 @@ pub mod Demands
 pub mod Fixed
 pub mod LevelOne
 pub mod LevelOneDemands
+pub mod BothProfiles
 pub mod Fakes
 pub mod Witness
 pub mod Exam

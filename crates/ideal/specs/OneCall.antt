@@ -1,5 +1,4 @@
--- What is promised of one call on any sound box, hand-made ones included: its number, and what an accepted call leaves and
--- answers, said from the host's tables before it. That fixes the call.
+-- What an accepted call leaves and answers on any sound box, hand-made ones included, said from the host's tables before it.
 use Prim.Native.Nat.{ℕ, zero, suc, _+_, _*_, _-_, _^_}
 use mathlib.Core.Path.{_≡_}
 use mathlib.Core.Bool.{cond}
@@ -15,11 +14,10 @@ use Rattle.ideal.specs.declared.EscrowRow.{EscrowRow}
 use Rattle.ideal.specs.State.{cleared, part, any, position}
 use Rattle.ideal.specs.Step.{Link}
 use Rattle.ideal.specs.Tables.{Tables, escrowTable, usedLog, usedEscrow}
-use Rattle.ideal.specs.Box.{Element, Result, callOn}
-use Rattle.ideal.specs.Refusals.{callerIn, ownBytes, isRow, holdsPair, lengthIn, bytesIn, rowFor, isLogRow, valueAt, leftAt, leadsOn, namedIn, EachNumber, RefusalsAlterNothing}
-use Rattle.ideal.specs.Answers.{AcceptedAnswers}
+use Rattle.ideal.specs.Box.{Element, Result}
+use Rattle.ideal.specs.Refusals.{callerIn, ownBytes, isRow, holdsPair, lengthIn, bytesIn, rowFor, isLogRow, valueAt, leftAt, leadsOn, namedIn}
 use Rattle.ideal.specs.History.{ones}
-use Rattle.ideal.specs.Accuracy.{withOwnBytes, HandleIsFirstFree}
+use Rattle.ideal.specs.Accuracy.{withOwnBytes}
 
 -- ---- tables of which a part is another
 
@@ -221,16 +219,7 @@ pub record Done (t : Tables) (c : Call) (r : Result) : Type 0 where
   pub counted : (n : ℕ) → countedNumber t c ≡ some n → r .answer .number ≡ n
   pub shows : r .answer .shown ≡ shows t c
 
--- ---- what is promised of one call
-
-pub record OneCall (box : Tables → Element → Result) : Type 0 where
-  pub numbers : EachNumber box
-  pub alters-nothing : RefusalsAlterNothing box
-  pub answers : AcceptedAnswers box
-  pub handles-free : HandleIsFirstFree box
-  pub does : (t : Tables) (e : Element) (c : Call) (used : ℕ) → read (e .bytes) ≡ whole c used → box t e .answer .code ≡ 0
-      → Done t c (box t e)
-
--- nothing else meets that: on any tables, sound or not
-abbrev pub OneCallFixed : Type 0
-OneCallFixed = (box : Tables → Element → Result) → OneCall box → (t : Tables) (e : Element) → box t e ≡ callOn t e
+-- what an accepted call leaves, answers and shows, on any tables
+abbrev pub AcceptedCalls : (Tables → Element → Result) → Type 0
+AcceptedCalls box = (t : Tables) (e : Element) (c : Call) (used : ℕ) → read (e .bytes) ≡ whole c used
+    → box t e .answer .code ≡ 0 → Done t c (box t e)

@@ -20,7 +20,7 @@ use Rattle.ideal.specs.State.{part, any, find, sameBytes}
 use Rattle.ideal.specs.Step.{Link}
 use Rattle.ideal.specs.Tables.{Tables, usedLog, usedEscrow}
 use Rattle.ideal.specs.Soundness.{sizesRight, sound}
-use Rattle.ideal.specs.Box.{Element, Result, outputAfter}
+use Rattle.ideal.specs.Box.{Element, Result}
 
 -- the identity of the running place; 0 when none runs
 abbrev pub callerIn : Tables → ℕ
@@ -235,11 +235,10 @@ pub record Refused (t : Tables) (e : Element) (r : Result) : Type 0 where
   pub number : r .answer .number ≡ numberAt (e .bytes) (r .answer .code)
   pub shown : r .answer .shown ≡ []
   pub used : UsedAt (e .bytes) (r .answer .code) (r .answer .used)
-  pub output : (out : List ℕ) → outputAfter (r .answer) out ≡ out
 
 -- the same call with more bytes behind its record
 abbrev pub followed : Element → List ℕ → Element
-followed e more = record { bytes = e .bytes ++ more; outputSize = e .outputSize }
+followed e more = record { bytes = e .bytes ++ more; outputSize = e .outputSize; profile = e .profile }
 
 module _ (box : Tables → Element → Result) where
   -- each number is given when its condition holds and no earlier one does, and at no other time

@@ -40,6 +40,7 @@ pub record HeapWrites (e f : Element) : Type 0 where
   pub reads₁ : read (e .bytes) ≡ whole (heapWrite place offset bytes₁) used
   pub reads₂ : read (f .bytes) ≡ whole (heapWrite place offset bytes₂) used
   pub outputSize : e .outputSize ≡ f .outputSize
+  pub profile : e .profile ≡ f .profile
 
 -- alike, where the first run's tables just before are t
 pub data AlikeAt (G : ℕ → Bool) (t : Tables) (e f : Element) : Type 0 where
@@ -104,7 +105,11 @@ module _ (box : Tables → Element → Result) (G : ℕ → Bool) (es fs : List 
         EqualAt (exempt G t (elementAt es k)) (groupRuns G t) (answerAt box es k) (answerAt box fs k)
     pub end : AgreeOutside G (tablesAfter box es) (tablesAfter box fs)
 
+-- two runs of alike lists are equal outside the group, but for the answers that are exempt
+abbrev pub SecrecyBut : Exemption → (Tables → Element → Result) → Type 0
+SecrecyBut exempt box = (G : ℕ → Bool) (es fs : List Element) → AlikeLists box G es fs → Premise box G es fs
+    → EqualOutside box G es fs exempt
+
 -- demand 3: none but the answers to group programs' own chain calls are exempt
 abbrev pub Secrecy : (Tables → Element → Result) → Type 0
-Secrecy box = (G : ℕ → Bool) (es fs : List Element) → AlikeLists box G es fs → Premise box G es fs
-    → EqualOutside box G es fs ownChain
+Secrecy = SecrecyBut ownChain

@@ -12,7 +12,7 @@ use Rattle.record.specs.Call.{Call, create, heapWrite, heapRead, attest, protec
 use Rattle.record.specs.Write.{write}
 use Rattle.ideal.specs.Tables.{Tables}
 use Rattle.ideal.specs.Step.{handleOf, next, Answer}
-use Rattle.ideal.specs.Box.{Element, Result, elementAt, tablesAfter, tablesBefore, answerAt}
+use Rattle.ideal.specs.Box.{Element, given, Result, elementAt, tablesAfter, tablesBefore, answerAt}
 use Rattle.ideal.specs.Secrecy.{AlikeLists, Premise, ownChain}
 
 -- programs 1 and 2
@@ -47,22 +47,37 @@ calls b =
     ∷ []
 
 unfoldable pub element : Call → Element
-element c = record { bytes = write c; outputSize = 1024 }
+element c = given (write c) 1024
 
 unfoldable pub elements : ℕ → List Element
 elements b = map element (calls b)
 
-pub record Differing (box : Tables → Element → Result) (es fs : List Element) : Type 0 where
+-- two lists that differ in a byte, which stands in the heaps after them
+pub record Differing (box : Tables → Element → Result) (es fs : List Element) (at : ℕ) : Type 0 where
   pub alike : AlikeLists box group es fs
   pub premise : Premise box group es fs
   pub accepted₁ : (k : ℕ) → k < length es → answerAt box es k .code ≡ 0
   pub accepted₂ : (k : ℕ) → k < length fs → answerAt box fs k .code ≡ 0
-  -- the first byte of place 1, the recipient's
-  pub secret₁ : getD (tablesAfter box es .heaps) 256 0 ≡ 66
-  pub secret₂ : getD (tablesAfter box fs .heaps) 256 0 ≡ 67
+  pub secret₁ : getD (tablesAfter box es .heaps) at 0 ≡ 66
+  pub secret₂ : getD (tablesAfter box fs .heaps) at 0 ≡ 67
 
+-- the first byte of place 1, the recipient's
 abbrev pub PremisesCanBeMet : (Tables → Element → Result) → Type 0
-PremisesCanBeMet box = Differing box (elements 66) (elements 67)
+PremisesCanBeMet box = Differing box (elements 66) (elements 67) 256
+
+-- with no escrow, as on a level-one box: 1 makes a byte known and keeps another, which it reads
+unfoldable pub callsWithout : ℕ → List Call
+callsWithout b =
+    create 0 1 ∷ create 1 3
+    ∷ handOver 0
+    ∷ heapWrite 0 0 (65 ∷ [])
+    ∷ attest 0 1
+    ∷ heapWrite 0 1 (b ∷ [])
+    ∷ heapRead 0 1 1
+    ∷ handOver 1
+    ∷ heapRead 1 0 1
+    ∷ report
+    ∷ []
 
 -- ---- a group program's own chain
 

@@ -18,7 +18,7 @@ use Rattle.record.proofs.RoundTrip.{reads-back}
 use Rattle.ideal.specs.State.{State, heapAt, caller, part, ownPart}
 use Rattle.ideal.specs.Step.{refusal, tests, firstHolding, idle, beyond, protected, move, apply, effect, number, accepted}
 use Rattle.ideal.specs.Tables.{Tables, freshTables, boxRecord, tables}
-use Rattle.ideal.specs.Box.{Element, Result, laid, callOn, elementAt, tablesFrom, tablesAfter, tablesBefore}
+use Rattle.ideal.specs.Box.{Element, given, Result, laid, callOn, elementAt, tablesFrom, tablesAfter, tablesBefore}
 use Rattle.ideal.specs.Refusals.{callerIn, ownBytes}
 use Rattle.ideal.specs.Accuracy.{ProtectsAt}
 use Rattle.ideal.specs.History.{within}
@@ -309,7 +309,7 @@ module _ (es : List Element) (i : ℕ) (v b : List ℕ) (p q : ℕ) (η : Handle
   alpha : behaviour callOn es ≡ A ++ protects p q η v ∷ behaviourFrom callOn (tables (effect s c)) rest
   unfolding behaviour elementAt
   alpha =
-      ap (behaviourFrom callOn freshTables) (split-at es k (record { bytes = []; outputSize = 0 }) (y .in-list))
+      ap (behaviourFrom callOn freshTables) (split-at es k (given [] 0) (y .in-list))
       ∙ from-head (elementAt es k ∷ rest)
       ∙ ap (λ l. A ++ l)
       (loud p q (at .offset) (at .size) (at .draw) η (at .used) s (elementAt es k) rest v valid accepts by gets own)

@@ -32,7 +32,7 @@ use Rattle.ideal.proofs.Table.{part-length}
 use Rattle.ideal.proofs.Hosted.{heap-is}
 use Rattle.ideal.proofs.Facts.{output-size}
 use Rattle.ideal.proofs.Numbers.{refusals-alter-nothing}
-use Rattle.ideal.proofs.OneCalls.{one-call}
+use Rattle.ideal.proofs.OneCalls.{accepted-calls}
 use Rattle.ideal.proofs.Runs.{stateBefore, valid-before, tables-before, running-before, stays, moves, moved, code-of-call, accepted-call, accepted-at, accepts-at, answer-at, state-next, state-after}
 
 -- ---- what an accepted call's move does to the heap of place p
@@ -169,7 +169,7 @@ to-taken-passes s p low n = rw (le-ltb 16 p (omega arith), lt-ltb p 16 low, ne-e
 pub hands-over : HandsOver callOn
 hands-over =
     record {
-      runs = λ t e p used y z. unfold leaves in one-call .does t e (handOver p) used y z .leaves;
+      runs = λ t e p used y z. unfold leaves in accepted-calls t e (handOver p) used y z .leaves;
       starts = λ t e p used h y low taken.
           passes-code t e (handOver p) used h y (to-taken-passes (stateOf t) p low (taken-there t (e .outputSize) p h taken));
       yields = λ t e used h y. passes-code t e (handOver 16) used h y (unfold refusal tests firstHolding in refl);
@@ -177,7 +177,7 @@ hands-over =
           let n = e .outputSize in
           let c = handOver (t .box .running) in
           let z = passes-code t e c used h y (unfold stateOf in to-itself-passes (stateOf t) (valid-sound t n h)) in
-          (z, unfold leaves withPlacesIn in one-call .does t e c used y z .leaves);
+          (z, unfold leaves withPlacesIn in accepted-calls t e c used y z .leaves);
       refused = λ t e p used y f. refusals-alter-nothing t e f .tables;
     }
 

@@ -1,9 +1,12 @@
 // The log's rows, lent as a slice of whole rows.
 ghost use mathlib.Core.Path.{_≡_};
+ghost use mathlib.Core.Bool.{true, not, _&&_};
 ghost use Prim.Native.Nat.{_<_};
+ghost use lib.Dec.{eqb};
 ghost use lib.ListN.{length, getD};
 ghost use Rattle.ideal.specs.Tables.{logTable, freshTables};
 ghost use Rattle.state.specs.Edits.{edited, Fits};
+ghost use Rattle.rows.specs.Unfit.{unfit, logClear};
 use ideal::LogRow;
 use state::LogTable;
 use state::falls_from;
@@ -79,4 +82,55 @@ pub fn store_log(rows: &mut [LogRow], table: LogTable)
         rows[i] = held[i];
         i = i + 1;
     }
+}
+
+// The bits of rows, joined field by field: one join need not wait for another.
+struct LogBits {
+    identities: u64,
+    tags: u64,
+    places: u64,
+}
+
+fn no_log_bits() -> LogBits
+    ensures { λ r. ⌜ logClear r ≡ true ⌝ }
+{
+    LogBits {
+        identities: 0,
+        tags: 0,
+        places: 0,
+    }
+}
+
+// First and length are read as one.
+fn with_log_row(bits: LogBits, row: LogRow) -> LogBits
+    ensures { λ r. ⌜ logClear r ≡ logClear bits && logTable .isBlank row ⌝ }
+{
+    LogBits {
+        identities: bits.identities | row.identity,
+        tags: bits.tags | row.tag.0,
+        places: bits.places | (row.first as u64 + row.length as u64 * 65536),
+    }
+}
+
+fn log_bits_unfit(bits: LogBits, count: usize) -> bool
+    ensures { λ r. ⌜ r ≡ not (eqb count 64 && logClear bits) ⌝ }
+{
+    if count != 64 {
+        return true;
+    }
+    let all = (bits.identities | bits.tags) | bits.places;
+    all != 0
+}
+
+// Whether the rows are not 64, or one from n on isn't blank. In place: a covered loop over a table copies it.
+pub fn log_unfit(rows: &[LogRow], n: usize) -> bool
+    ensures { λ r. ⌜ r ≡ unfit logTable n (now (rows .entry)) ⌝ }
+{
+    let mut bits = no_log_bits();
+    let mut i = n;
+    while i < rows.len() {
+        bits = with_log_row(bits, log_row_at(rows, i));
+        i = i + 1;
+    }
+    log_bits_unfit(bits, rows.len())
 }

@@ -13,7 +13,7 @@ use Rattle.ideal.specs.declared.Profile.the-variants.{Full, LevelOne}
 use Rattle.ideal.specs.State.{State}
 use Rattle.ideal.specs.Step.{refusedAnswer, refuse, accepted, settle, readingBy, stepOnBy, stepBy}
 use Rattle.ideal.specs.Tables.{Tables, stateOf, freshTables}
-use Rattle.ideal.specs.Box.{Element, Result, laid, boxBy}
+use Rattle.ideal.specs.Box.{Element, given, Result, laid, boxBy}
 use Rattle.ideal.specs.LevelOne.{refusalIn, boxOf}
 use Rattle.ideal.specs.Layouts.{Sound}
 use Rattle.lists.proofs.Bools.{by-cases, clash}
@@ -75,7 +75,7 @@ module _ (p : Profile) where
 
   pub called-sound : (t : Tables) (rest : List ℕ) → Sound t 1024 → Sound (made t rest .tables) 1024
   unfolding turn called
-  called-sound t rest h = stays-sound-in p t (record { bytes = rest; outputSize = 1024 }) h
+  called-sound t rest h = stays-sound-in p t (given rest 1024) h
 
   -- what is left after a turn that is not the last is shorter
   pub shorter : (t : Tables) (b : ℕ) (bs : List ℕ) (n : ℕ) → Sound t 1024 → made t (b ∷ bs) .last ≡ false

@@ -8,7 +8,7 @@ use lib.ListN.{length, drop}
 use lib.Dec.{eqb, ltb}
 use Rattle.ideal.specs.Step.{Answer}
 use Rattle.ideal.specs.Tables.{Tables, freshTables}
-use Rattle.ideal.specs.Box.{Element, Result}
+use Rattle.ideal.specs.Box.{Element, given, Result}
 
 -- ---- text
 
@@ -67,7 +67,7 @@ stops a = lastCode (a .code)
 module _ (box : Tables → Element → Result) where
   -- the call of the record that stands at the front of what is left of a script
   unfoldable pub called : Tables → List ℕ → Result
-  called t rest = box t (record { bytes = rest; outputSize = 1024 })
+  called t rest = box t (given rest 1024)
 
   -- a line a record, until no input is left or after a line with 1, 2 or 3; at most n lines
   unfoldable pub linesFrom : ℕ → Tables → List ℕ → List ℕ

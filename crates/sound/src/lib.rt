@@ -7,9 +7,11 @@ ghost use Rattle.ideal.specs.declared.BoxRecord.{BoxRecord};
 ghost use Rattle.state.specs.declared.LogTable.{LogTable};
 ghost use Rattle.state.specs.declared.EscrowTable.{EscrowTable};
 ghost use Rattle.ideal.specs.Soundness.{sizesRight, sound};
-ghost use Rattle.soundness.specs.Parts.{tablesOf, Counted, Lent};
+ghost use Rattle.soundness.specs.Parts.{tablesOf, Counted, Lent, RestBlank};
 use ideal::BoxRecord;
+pub use soundescrow::escrow_rest_blank;
 use soundescrow::escrow_sound;
+pub use soundlog::log_rest_blank;
 use soundlog::log_sound;
 use soundplaces::places_sound;
 use state::EscrowTable;
@@ -40,7 +42,7 @@ pub fn sizes_right(
     output.len() == 1024
 }
 
-// Whether the box is sound, whatever the shared memory holds. Called once the sizes are right.
+// Whether the box is sound, whatever the shared memory holds. Called once the sizes are right and the unused rows blank.
 pub fn box_sound(
     held: BoxRecord,
     log: LogTable,
@@ -49,7 +51,7 @@ pub fn box_sound(
     log_values: &[u8],
     escrow_values: &[u8],
 ) -> bool
-    requires { ⌜ Lent (now heaps) (now «log_values») (now «escrow_values») ⌝ }
+    requires { ⌜ Lent (now heaps) (now «log_values») (now «escrow_values») × RestBlank held (log .rows) (escrow .rows) ⌝ }
     ensures { λ r. ⌜ ((shared : List ℕ) → r ≡ sound (tablesOf held log escrow (now (heaps .entry)) shared (now («log_values» .entry)) (now («escrow_values» .entry)))) ⌝ }
 {
     if !places_sound(held, heaps) {

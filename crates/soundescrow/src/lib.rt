@@ -1,12 +1,13 @@
 // The escrow: its rows and value bytes.
 ghost use mathlib.Core.Path.{_≡_};
-ghost use mathlib.Core.Bool.{_&&_};
+ghost use mathlib.Core.Bool.{true, _&&_};
 ghost use mathlib.Core.List.{List, []};
 ghost use Prim.Native.Nat.{ℕ, _/_, _^_, _≤_};
-ghost use lib.ListN.{length, take};
+ghost use lib.ListN.{length, take, drop};
+ghost use Rattle.ideal.specs.State.{every};
 ghost use Rattle.ideal.specs.Tables.{escrowTable, entriesOf};
 ghost use Rattle.ideal.specs.Soundness.{sameHandle, rightMark, carriesLength};
-ghost use Rattle.soundness.specs.Tests.{rowSound, bytesAndRows, differBefore, escrowRowRight, escrowSound};
+ghost use Rattle.soundness.specs.Tests.{rowSound, rowsSound, differBefore, escrowRowRight, escrowSound};
 use buffers::all_zero;
 use ideal::EscrowRow;
 use ideal::Used;
@@ -52,15 +53,11 @@ fn row_sound(row: EscrowRow, at: usize) -> bool
     length_right(row)
 }
 
-// Whether the value bytes from `end` on are 0, the first n rows right and one after the other, from 0 to `end`, and the rest
-// blank: in one function, as in the log.
-fn rows_sound(rows: [EscrowRow; 64], n: usize, end: usize, values: &[u8]) -> bool
-    requires { ⌜ (n ≤ 64) × (end ≤ length (now values)) ⌝ }
-    ensures { λ r. ⌜ r ≡ bytesAndRows escrowTable escrowRowRight n end rows (now (values .entry)) ⌝ }
+// Whether the first n rows are right and one after the other, from 0 to `end`.
+fn rows_sound(rows: [EscrowRow; 64], n: usize, end: usize) -> bool
+    requires { ⌜ n ≤ 64 ⌝ }
+    ensures { λ r. ⌜ r ≡ rowsSound escrowTable escrowRowRight end 0 (take n rows) ⌝ }
 {
-    if !all_zero(&values[end..]) {
-        return false;
-    }
     let mut at: usize = 0;
     let mut i: usize = 0;
     while i < n {
@@ -71,25 +68,7 @@ fn rows_sound(rows: [EscrowRow; 64], n: usize, end: usize, values: &[u8]) -> boo
         at += row.length as usize;
         i += 1;
     }
-    if at != end {
-        return false;
-    }
-    let mut sources: u64 = 0;
-    let mut recipients: u64 = 0;
-    let mut handles: u64 = 0;
-    let mut places: u64 = 0;
-    let mut marks: u64 = 0;
-    while i < 64 {
-        let row = rows[i];
-        sources = sources | row.source;
-        recipients = recipients | row.recipient;
-        handles = handles | row.handle.0;
-        places = places | (row.first as u64 + row.length as u64 * 65536);
-        marks = marks | row.mark as u64;
-        i += 1;
-    }
-    let all = (((sources | recipients) | handles) | places) | marks;
-    all == 0
+    at == end
 }
 
 // Whether none of the first n rows has the handle of one before it, whatever the values: by slots, as in the log.
@@ -119,8 +98,9 @@ fn handles_differ(rows: [EscrowRow; 64], n: usize) -> bool
     true
 }
 
+// As log_sound.
 pub fn escrow_sound(rows: [EscrowRow; 64], values: &[u8], used: Used) -> bool
-    requires { ⌜ length (now values) ≡ 4096 ⌝ }
+    requires { ⌜ (length (now values) ≡ 4096) × (every (escrowTable .isBlank) (drop (used .rows) rows) ≡ true) ⌝ }
     ensures { λ r. ⌜ r ≡ escrowSound rows (now (values .entry)) used ⌝ }
 {
     if used.rows > 64 {
@@ -131,12 +111,41 @@ pub fn escrow_sound(rows: [EscrowRow; 64], values: &[u8], used: Used) -> bool
     }
     let n = used.rows as usize;
     let end = used.bytes as usize;
-    if !rows_sound(rows, n, end, values) {
+    if !all_zero(&values[end..]) {
         return false;
     }
-    // Asked first, because the rows are copied for the loop.
+    // Asked first, because the rows are copied for a loop over them.
+    if n == 0 {
+        return end == 0;
+    }
+    if !rows_sound(rows, n, end) {
+        return false;
+    }
     if n < 2 {
         return true;
     }
     handles_differ(rows, n)
+}
+
+// Whether the rows from n on are blank: by their bits, as in the log.
+pub fn escrow_rest_blank(rows: [EscrowRow; 64], n: usize) -> bool
+    ensures { λ r. ⌜ r ≡ every (escrowTable .isBlank) (drop n rows) ⌝ }
+{
+    let mut sources: u64 = 0;
+    let mut recipients: u64 = 0;
+    let mut handles: u64 = 0;
+    let mut places: u64 = 0;
+    let mut marks: u64 = 0;
+    let mut i: usize = n;
+    while i < 64 {
+        let row = rows[i];
+        sources = sources | row.source;
+        recipients = recipients | row.recipient;
+        handles = handles | row.handle.0;
+        places = places | (row.first as u64 + row.length as u64 * 65536);
+        marks = marks | row.mark as u64;
+        i += 1;
+    }
+    let all = (((sources | recipients) | handles) | places) | marks;
+    all == 0
 }

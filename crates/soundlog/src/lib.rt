@@ -1,13 +1,14 @@
 // The log: its rows and value bytes.
 ghost use mathlib.Core.Path.{_≡_};
-ghost use mathlib.Core.Bool.{_&&_};
+ghost use mathlib.Core.Bool.{true, _&&_};
 ghost use mathlib.Core.List.{[], _∷_};
 ghost use Prim.Native.Nat.{_≤_, _<_, _^_};
 ghost use lib.Dec.{eqb};
-ghost use lib.ListN.{length, take};
+ghost use lib.ListN.{length, take, drop};
+ghost use Rattle.ideal.specs.State.{every};
 ghost use Rattle.ideal.specs.Tables.{logTable, entriesOf};
 ghost use Rattle.ideal.specs.Fit.{RowsFit};
-ghost use Rattle.soundness.specs.Tests.{rowSound, bytesAndRows, differBefore, logRowRight, sameLogged, logSound};
+ghost use Rattle.soundness.specs.Tests.{rowSound, rowsSound, differBefore, logRowRight, sameLogged, logSound};
 ghost use Rattle.soundlog.specs.Placed.{rowPlaced, placedAndTagged};
 use buffers::all_zero;
 use fnv::Four;
@@ -95,18 +96,12 @@ fn four_sound(a: LogRow, b: LogRow, c: LogRow, d: LogRow, at: usize, values: &[u
     same_four(Four(a.tag.0, b.tag.0, c.tag.0, d.tag.0), right)
 }
 
-// Whether the value bytes from `end` on are 0, the first n rows right and one after the other, from 0 to `end`, and the rest
-// blank. In one function, because the rows are copied as a function begins that has a loop over them; the bytes first, because
-// rows that were just copied are slow to read. The bits of blank rows are joined with no way out of the loop, each field by
-// itself, so that one join need not wait for another; first and length are read as one. Used rows go by fours while there are
-// four, since most of the time goes into their tags.
+// Whether the first n rows are right and one after the other, from 0 to `end`. By fours while there are four, since most of
+// the time goes into their tags.
 fn rows_sound(rows: [LogRow; 64], n: usize, end: usize, values: &[u8]) -> bool
     requires { ⌜ (n ≤ 64) × (end ≤ length (now values)) ⌝ }
-    ensures { λ r. ⌜ r ≡ bytesAndRows logTable (logRowRight (now (values .entry))) n end rows (now (values .entry)) ⌝ }
+    ensures { λ r. ⌜ r ≡ rowsSound logTable (logRowRight (now (values .entry))) end 0 (take n rows) ⌝ }
 {
-    if !all_zero(&values[end..]) {
-        return false;
-    }
     let mut at: usize = 0;
     let mut i: usize = 0;
     while n - i >= 4 {
@@ -128,21 +123,7 @@ fn rows_sound(rows: [LogRow; 64], n: usize, end: usize, values: &[u8]) -> bool
         at += row.length as usize;
         i += 1;
     }
-    if at != end {
-        return false;
-    }
-    let mut identities: u64 = 0;
-    let mut tags: u64 = 0;
-    let mut places: u64 = 0;
-    while i < 64 {
-        let row = rows[i];
-        identities = identities | row.identity;
-        tags = tags | row.tag.0;
-        places = places | (row.first as u64 + row.length as u64 * 65536);
-        i += 1;
-    }
-    let all = (identities | tags) | places;
-    all == 0
+    at == end
 }
 
 // Whether none of the first n rows has the pair of one before it. Their tags are right, so that a pair has one tag: a row is
@@ -176,8 +157,10 @@ fn pairs_differ(rows: [LogRow; 64], n: usize, values: &[u8]) -> bool
     true
 }
 
+// The log of rows that are known to be blank from the used ones on. The bytes first, because rows that were just copied are
+// slow to read.
 pub fn log_sound(rows: [LogRow; 64], values: &[u8], used: Used) -> bool
-    requires { ⌜ length (now values) ≡ 4096 ⌝ }
+    requires { ⌜ (length (now values) ≡ 4096) × (every (logTable .isBlank) (drop (used .rows) rows) ≡ true) ⌝ }
     ensures { λ r. ⌜ r ≡ logSound rows (now (values .entry)) used ⌝ }
 {
     if used.rows > 64 {
@@ -188,12 +171,38 @@ pub fn log_sound(rows: [LogRow; 64], values: &[u8], used: Used) -> bool
     }
     let n = used.rows as usize;
     let end = used.bytes as usize;
+    if !all_zero(&values[end..]) {
+        return false;
+    }
+    // Asked first, because the rows are copied for a loop over them.
+    if n == 0 {
+        return end == 0;
+    }
     if !rows_sound(rows, n, end, values) {
         return false;
     }
-    // Asked first, because the rows are copied for the loop.
     if n < 2 {
         return true;
     }
     pairs_differ(rows, n, values)
+}
+
+// Whether the rows from n on are blank: their bits are joined with no way out of the loop, each field by itself, so that one
+// join need not wait for another; first and length are read as one.
+pub fn log_rest_blank(rows: [LogRow; 64], n: usize) -> bool
+    ensures { λ r. ⌜ r ≡ every (logTable .isBlank) (drop n rows) ⌝ }
+{
+    let mut identities: u64 = 0;
+    let mut tags: u64 = 0;
+    let mut places: u64 = 0;
+    let mut i: usize = n;
+    while i < 64 {
+        let row = rows[i];
+        identities = identities | row.identity;
+        tags = tags | row.tag.0;
+        places = places | (row.first as u64 + row.length as u64 * 65536);
+        i += 1;
+    }
+    let all = (identities | tags) | places;
+    all == 0
 }

@@ -1,3 +1,4 @@
+pub mod Blank
 pub mod Rows
 pub mod Differ
 pub mod Seen

@@ -15,11 +15,11 @@ use Rattle.ideal.specs.declared.LogRow.{LogRow}
 use Rattle.ideal.specs.declared.EscrowRow.{EscrowRow}
 use Rattle.ideal.specs.State.{Entry, every}
 use Rattle.ideal.specs.Tables.{RowsOf, logTable, escrowTable, entryOf, entriesOf}
-use Rattle.ideal.specs.Soundness.{allZero, chained, short}
+use Rattle.ideal.specs.Soundness.{chained, short}
 use Rattle.lists.proofs.Bools.{and-left, and-right, and-true, and-nil, and-assoc, and-swap}
 use Rattle.lists.proofs.Lists.{one-on}
 use Rattle.buffers.proofs.Loops.{joined}
-use Rattle.soundness.specs.Tests.{rowSound, rowsSound, bytesAndRows, logBits, escrowBits}
+use Rattle.soundness.specs.Tests.{rowSound, rowsSound}
 
 -- one element on
 pub every-step : {A : Type 0} (p : A → Bool) (l : List A) (d : A) (i : ℕ) → i < length l
@@ -27,14 +27,13 @@ pub every-step : {A : Type 0} (p : A → Bool) (l : List A) (d : A) (i : ℕ) �
 unfolding every
 every-step p l d i h = rw (drop-cons l i d h, add-one i)
 
--- one row on, where a row's bits are joined
-pub join-step : {A : Type 0} (p : A → Bool) (bits : A → ℕ) → ((a : A) → eqb (bits a) 0 ≡ p a) → (l : List A) (d : A) (all i : ℕ)
-    → i < length l → eqb all 0 && every p (drop i l) ≡ eqb (bitOr all (bits (getD l i d))) 0 && every p (drop (i + 1) l)
-join-step p bits f l d all i h =
-    rw (every-step p l d i h, joined all (bits (getD l i d)), f (getD l i d)) (sym (and-assoc (eqb all 0) _ _))
+-- one row on, where `more` says that the rows so far are blank
+pub blank-step : {A : Type 0} (p : A → Bool) (l : List A) (d : A) (i : ℕ) (so more : Bool) → i < length l
+    → more ≡ so && p (getD l i d) → more && every p (drop (i + 1) l) ≡ so && every p (drop i l)
+blank-step p l d i so more h e = rw (e, every-step p l d i h) (and-assoc so _ _)
 
 -- bits joined field by field are those of the whole rows
-pub join-more : (s a x d z : ℕ) → eqb s 0 ≡ eqb (bitOr a x) 0
+join-more : (s a x d z : ℕ) → eqb s 0 ≡ eqb (bitOr a x) 0
     → eqb (bitOr s (bitOr d z)) 0 ≡ eqb (bitOr (bitOr a d) (bitOr x z)) 0
 join-more s a x d z e =
     rw (joined s (bitOr d z), e, joined a x, joined d z, joined (bitOr a d) (bitOr x z), joined a d, joined x z)
@@ -46,13 +45,38 @@ sum-bits zero zero = refl
 sum-bits zero (suc b) = rw (ne-eqb (suc b) 0 (λ e. omega (arith, e))) (ne-eqb (zero + suc b * 65536) 0 (λ e. omega (arith, e)))
 sum-bits (suc a) b = rw (ne-eqb (suc a) 0 (λ e. omega (arith, e))) (ne-eqb (suc a + b * 65536) 0 (λ e. omega (arith, e)))
 
-pub log-bits : (r : LogRow) → eqb (logBits r) 0 ≡ logTable .isBlank r
-unfolding logBits
-log-bits r = simp (joined, sum-bits, and-assoc)
+-- a log row's bits joined to those before it
+pub log-joined : (identities tags places : ℕ) (r : LogRow)
+    → eqb (bitOr (bitOr (bitOr identities (r .identity)) (bitOr tags (r .tag .0))) (bitOr places (r .first + r .length * 65536))) 0
+    ≡ eqb (bitOr (bitOr identities tags) places) 0 && logTable .isBlank r
+log-joined identities tags places r =
+    let one = bitOr identities (r .identity) in
+    let two = bitOr one (bitOr tags (r .tag .0)) in
+    let before = bitOr (bitOr identities tags) places in
+    let here = bitOr (bitOr (r .identity) (r .tag .0)) (r .first + r .length * 65536) in
+    join-more two (bitOr identities tags) (bitOr (r .identity) (r .tag .0)) places (r .first + r .length * 65536)
+    (join-more one identities (r .identity) tags (r .tag .0) refl)
+    ∙ joined before here
+    ∙ ap (λ b. eqb before 0 && b) (simp (joined, sum-bits, and-assoc))
 
-pub escrow-bits : (r : EscrowRow) → eqb (escrowBits r) 0 ≡ escrowTable .isBlank r
-unfolding escrowBits
-escrow-bits r = simp (joined, sum-bits, and-assoc)
+-- an escrow row's
+pub escrow-joined : (sources recipients handles places marks : ℕ) (r : EscrowRow)
+    → eqb (bitOr (bitOr (bitOr (bitOr (bitOr sources (r .source)) (bitOr recipients (r .recipient))) (bitOr handles (r .handle .0))) (bitOr places (r .first + r .length * 65536))) (bitOr marks (r .mark))) 0
+    ≡ eqb (bitOr (bitOr (bitOr (bitOr sources recipients) handles) places) marks) 0 && escrowTable .isBlank r
+escrow-joined sources recipients handles places marks r =
+    let at = r .first + r .length * 65536 in
+    let one = bitOr sources (r .source) in
+    let two = bitOr one (bitOr recipients (r .recipient)) in
+    let three = bitOr two (bitOr handles (r .handle .0)) in
+    let four = bitOr three (bitOr places at) in
+    let before = bitOr (bitOr (bitOr sources recipients) handles) places in
+    let here = bitOr (bitOr (bitOr (r .source) (r .recipient)) (r .handle .0)) at in
+    let two-is = join-more one sources (r .source) recipients (r .recipient) refl in
+    let three-is = join-more two (bitOr sources recipients) (bitOr (r .source) (r .recipient)) handles (r .handle .0) two-is in
+    let four-is = join-more three (bitOr (bitOr sources recipients) handles) (bitOr (bitOr (r .source) (r .recipient)) (r .handle .0)) places at three-is in
+    join-more four before here marks (r .mark) four-is
+    ∙ joined (bitOr before marks) (bitOr here (r .mark))
+    ∙ ap (λ b. eqb (bitOr before marks) 0 && b) (simp (joined, sum-bits, and-assoc))
 
 module _ {Row Key : Type 0} (t : RowsOf Row Key) where
   pub every-entry : (values : List ℕ) (p : Entry Key → Bool) (rs : List Row)
@@ -84,15 +108,14 @@ module _ {Row Key : Type 0} (t : RowsOf Row Key) where
     unfolding rowSound
     right-short at r h = leb-true _ _ (and-left (leb (t .size r) 256) _ (and-right (eqb (t .first r) at) _ h))
 
-    -- behind the first n rows, where the bytes are zero: their end and the blank rows are left to be tested
-    pub rows-ended : (end at : ℕ) (rows : List Row) (values : List ℕ) (n i : ℕ) → i ≡ n → n ≤ length rows → allZero (drop end values) ≡ true
+    -- behind the first n rows their end is left to be tested
+    pub rows-ended : (end at : ℕ) (rows : List Row) (n i : ℕ) → i ≡ n → n ≤ length rows
         → rowsSound t right end at (drop i (take n rows)) ≡ rowsSound t right end 0 (take n rows)
-        → eqb at end && every (t .isBlank) (drop i rows) ≡ bytesAndRows t right n end rows values
-    unfolding rowsSound bytesAndRows
-    rows-ended end at rows values n i e q z h =
+        → eqb at end ≡ rowsSound t right end 0 (take n rows)
+    unfolding rowsSound
+    rows-ended end at rows n i e q h =
         let l : i ≡ length (take n rows) = simp length-take (omega arith) in
-        let k : eqb at end ≡ rowsSound t right end 0 (take n rows) = rw (l, drop-length (take n rows)) at h in
-        rw (z, k, e)
+        rw (l, drop-length (take n rows)) at h
 
     -- the clauses apart
     pub rows-clauses : (end at : ℕ) (rs : List Row)

@@ -1,10 +1,14 @@
 -- The tables that the parts of a box make.
 use Prim.Native.Nat.{ℕ}
 use mathlib.Core.Path.{_≡_}
+use mathlib.Core.Bool.{true}
 use mathlib.Core.List.{List}
-use lib.ListN.{length}
+use lib.ListN.{length, drop}
 use Rattle.ideal.specs.declared.BoxRecord.{BoxRecord}
-use Rattle.ideal.specs.Tables.{Tables}
+use Rattle.ideal.specs.declared.LogRow.{LogRow}
+use Rattle.ideal.specs.declared.EscrowRow.{EscrowRow}
+use Rattle.ideal.specs.State.{every}
+use Rattle.ideal.specs.Tables.{Tables, logTable, escrowTable}
 use Rattle.state.specs.declared.LogTable.{LogTable}
 use Rattle.state.specs.declared.EscrowTable.{EscrowTable}
 
@@ -31,3 +35,8 @@ pub record Lent (heaps logValues escrowValues : List ℕ) : Type 0 where
   pub heapBytes : length heaps ≡ 4096
   pub logBytes : length logValues ≡ 4096
   pub escrowBytes : length escrowValues ≡ 4096
+
+-- the unused rows are blank
+pub record RestBlank (b : BoxRecord) (logRows : List LogRow) (escrowRows : List EscrowRow) : Type 0 where
+  pub logBlank : every (logTable .isBlank) (drop (b .log .rows) logRows) ≡ true
+  pub escrowBlank : every (escrowTable .isBlank) (drop (b .escrow .rows) escrowRows) ≡ true

@@ -1,9 +1,8 @@
 -- The soundness test as the code makes it: the places, then each table by itself, several of the definition's clauses in one
 -- pass over the rows.
-use Prim.Native.Nat.{ℕ, _+_, _*_}
+use Prim.Native.Nat.{ℕ, _+_}
 use mathlib.Core.Bool.{Bool, true, not, _&&_}
 use mathlib.Core.List.{List, [], _∷_, _++_}
-use lib.Bits.{bitOr}
 use lib.Dec.{eqb, leb}
 use lib.ListN.{length, take, drop}
 use Rattle.ideal.specs.declared.BoxRecord.{BoxRecord}
@@ -72,10 +71,6 @@ sameLogged r q = isLogged (r .key .identity) (r .key .tag) (r .value) q
 unfoldable pub logSound : List LogRow → List ℕ → Used → Bool
 logSound rows values used = tableSound logTable (logRowRight values) sameLogged rows values used
 
--- zero just where the row is blank
-unfoldable pub logBits : LogRow → ℕ
-logBits r = bitOr (bitOr (r .identity) (r .tag .0)) (r .first + r .length * 65536)
-
 -- ---- the escrow
 
 unfoldable pub escrowRowRight : EscrowRow → Bool
@@ -83,8 +78,3 @@ escrowRowRight r = hasIdentities r && (rightMark r && carriesLength r)
 
 unfoldable pub escrowSound : List EscrowRow → List ℕ → Used → Bool
 escrowSound rows values used = tableSound escrowTable escrowRowRight sameHandle rows values used
-
--- zero just where the row is blank
-unfoldable pub escrowBits : EscrowRow → ℕ
-escrowBits r =
-    bitOr (bitOr (bitOr (bitOr (r .source) (r .recipient)) (r .handle .0)) (r .first + r .length * 65536)) (r .mark)

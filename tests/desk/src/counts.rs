@@ -94,10 +94,10 @@ impl Counts {
             self.tally.check(often, || format!("{answer:?} above {OFTEN}"));
         }
         println!("lists by code: {:?}", self.list_codes);
-        let often = [0, 24].iter().all(|code| self.list_codes.get(code) > Some(&OFTEN));
+        let often = [0, 15, 24].iter().all(|code| self.list_codes.get(code) > Some(&OFTEN));
         self.tally.check(often, || format!("lists of each code above {OFTEN}"));
         let others = self.alone.len() + self.listed.len() - 2 * ANSWERS.len();
-        let none = others == 0 && self.list_codes.len() == 2;
+        let none = others == 0 && self.list_codes.len() == 3;
         self.tally.check(none, || "an answer that the desk has not".into());
         self.tally.summary()
     }

@@ -83,10 +83,12 @@ fn action(difference: i32) -> TankAnswer {
     }
 }
 
-/// The code of a list with so many answers lent: 0, or 24 where it is refused whole.
+/// The code of a list with so many answers lent: "15: a lent buffer isn't of its size";
+/// then "an empty or longer list is refused whole as 24".
 pub fn wanted_code(tanks: usize, answers: usize) -> u8 {
     match tanks {
-        1..=8 if answers == tanks => 0,
+        _ if answers != tanks => 15,
+        1..=8 => 0,
         _ => 24,
     }
 }

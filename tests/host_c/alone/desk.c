@@ -7,11 +7,11 @@
 
 static unsigned passed, failed;
 
-static struct caif_box held = {.taken = 4, .running = CAIF_NONE, .identities = {[2] = 5}, .log = {.rows = 1, .bytes = 2}};
-static struct caif_log_row log_rows[CAIF_LOG_ROWS] = {{.identity = 5, .tag = TAG, .first = 0, .length = 2}};
-static struct caif_escrow_row escrow_rows[CAIF_ESCROW_ROWS];
-static uint8_t heaps[CAIF_HEAPS], shared[CAIF_SHARED], log_values[CAIF_LOG_VALUES] = {7};
-static uint8_t escrow_values[CAIF_ESCROW_VALUES], output[CAIF_OUTPUT];
+static const struct caif_box held = {.taken = 4, .running = CAIF_NONE, .identities = {[2] = 5}, .log = {.rows = 1, .bytes = 2}};
+static const struct caif_log_row log_rows[CAIF_LOG_ROWS] = {{.identity = 5, .tag = TAG, .first = 0, .length = 2}};
+static const struct caif_escrow_row escrow_rows[CAIF_ESCROW_ROWS];
+static const uint8_t heaps[CAIF_HEAPS], shared[CAIF_SHARED], log_values[CAIF_LOG_VALUES] = {7};
+static const uint8_t escrow_values[CAIF_ESCROW_VALUES], output[CAIF_OUTPUT];
 
 #define LENT                                                                                                  \
     held, log_rows, CAIF_LOG_ROWS, escrow_rows, CAIF_ESCROW_ROWS, heaps, sizeof heaps, shared, sizeof shared, \

@@ -97,14 +97,19 @@ fn asked(tally: &mut Tally, host: &mut Host, tank: Tank, wanted: Answer) {
     tally.check(*host == before, || format!("{tank:?}: the box or a buffer"));
 }
 
-/// A list of so many tanks, with so many answers: each its own, or 24 and none written.
+/// A list of so many tanks, with so many answers: each its own, or 15 or 24 and none
+/// written.
 fn lists(tally: &mut Tally, host: &mut Host) {
     let unwritten = TankAnswer { code: 99, action: 99, refusal: 99 };
     let all: Vec<_> = TANKS.into_iter().chain(ALONE).collect();
     let before = host.clone();
     for (count, lent) in (0..=9).flat_map(|count| (0..=9).map(move |lent| (count, lent))) {
         let tanks: Vec<_> = all[..count].iter().map(|(tank, _)| *tank).collect();
-        let code = if lent == count && (1..=8).contains(&count) { 0 } else { 24 };
+        let code = match count {
+            _ if lent != count => 15,
+            1..=8 => 0,
+            _ => 24,
+        };
         let mut answers = vec![unwritten; lent];
         let is = host.shift(&tanks, &mut answers);
         let each = answers.iter().enumerate().all(|(n, answer)| match code {

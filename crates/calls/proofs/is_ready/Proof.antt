@@ -28,10 +28,12 @@ returns c =
     ∙ not-true _ (c .if1 .taken))
 
 box-sound-requires : tie.Need-box-sound-requires
-box-sound-requires c κs =
-    sizes-lent _ _
-    (sym (c .before .sizes-right .ensures _ _ _ (counted (c .before .before .before .before .before .before .before)))
-    ∙ not-false _ (c .if1 .left))
+box-sound-requires c κs = (
+  sizes-lent _ _
+      (sym (c .before .sizes-right .ensures _ _ _ (counted (c .before .before .before .before .before .before .before)))
+      ∙ not-false _ (c .if1 .left)),
+  c .before .before .before .before .before .before .before .pre,
+)
 
 returns-2 : tie.Need-returns-2
 unfolding readyOn

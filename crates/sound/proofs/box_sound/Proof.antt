@@ -26,7 +26,7 @@ whole c shared =
       logRows = sym (length-map (a .log .rows) _) ∙ c .good .1 .0 .1 .1 .0 .1 .0 .1;
       escrowRows = sym (length-map (a .escrow .rows) _) ∙ c .good .1 .1 .0 .1 .1 .0 .1 .0 .1;
     })
-    (c .pre) shared
+    (c .pre .0) shared
 
 places-sound-requires : tie.Need-places-sound-requires
 places-sound-requires c κs = search needs

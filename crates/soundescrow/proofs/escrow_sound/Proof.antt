@@ -1,11 +1,12 @@
 use mathlib.Core.Path.{sym, _∙_}
 use borrow.Author.Tests.{le-leb, lt-leb, not-true, not-false}
 use borrow.Author.Needs.{needs}
-use Rattle.lists.proofs.Bools.{and-nil}
+use Rattle.buffers.proofs.Loops.{to-end}
 use Rattle.ideal.specs.Soundness.{pass, sameHandle}
 use Rattle.ideal.specs.Tables.{escrowTable}
-use Rattle.soundness.specs.Tests.{tableSound, escrowSound}
+use Rattle.soundness.specs.Tests.{escrowRowRight, tableSound, escrowSound}
 use Rattle.soundness.proofs.Differ.{few-differ}
+use Rattle.soundness.proofs.Blank.{bytes-left, used-rows, none-used}
 use Rattle.soundescrow.proofs.escrow_sound.Statement.{statement}
 use Rattle.soundescrow.proofs.escrow_sound.Tie as tie
 
@@ -23,37 +24,59 @@ cast-n c = search needs
 cast-end : tie.Need-cast-end
 cast-end c = search needs
 
+sub-all-zero : tie.Need-sub-all-zero
+sub-all-zero c = search needs
+
+part-all-zero-start : tie.Need-part-all-zero-start
+part-all-zero-start c = search needs
+
+part-all-zero-end : tie.Need-part-all-zero-end
+part-all-zero-end c = search needs
+
+all-zero-requires : tie.Need-all-zero-requires
+all-zero-requires c κs = search needs
+
+returns-3 : tie.Need-returns-3
+unfolding escrowSound
+returns-3 c =
+    let a = c .before .before .before .before .before .before .before .before .before .before .args in
+    bytes-left escrowTable escrowRowRight sameHandle (a .rows) (a .values .now) (a .used) (c .before .before .before .before .before .before .before .if1 .left) (c .before .before .before .before .before .if2 .left) (sym (rw (to-end (a .values .now) (a .used .bytes)) at (c .before .all-zero .ensures)) ∙ not-true _ (c .if3 .taken))
+
+returns-4 : tie.Need-returns-4
+unfolding escrowSound
+returns-4 c =
+    let a = c .before .before .before .before .before .before .before .before .before .before .before .args in
+    none-used escrowTable escrowRowRight sameHandle (a .rows) (a .values .now) (a .used) (c .before .before .before .before .before .before .before .before .if1 .left) (c .before .before .before .before .before .before .if2 .left) (c .before .before .before .before .before .before .before .before .before .before .before .pre .1) (sym (rw (to-end (a .values .now) (a .used .bytes)) at (c .before .before .all-zero .ensures)) ∙ not-false _ (c .before .if3 .left)) (c .if4 .taken)
+
 rows-sound-requires : tie.Need-rows-sound-requires
 rows-sound-requires c κs = search needs
 
-returns-3 : tie.Need-returns-3
-unfolding escrowSound tableSound pass
-returns-3 c =
-    rw (le-leb _ _ (c .before .before .before .before .before .before .if1 .left), le-leb _ _ (c .before .before .before .before .if2 .left), sym (c .before .rows-sound .ensures) ∙ not-true _ (c .if3 .taken))
+returns-5 : tie.Need-returns-5
+unfolding escrowSound
+returns-5 c =
+    let a = c .before .before .before .before .before .before .before .before .before .before .before .before .before .args in
+    rw (used-rows escrowTable escrowRowRight sameHandle (a .rows) (a .values .now) (a .used) (c .before .before .before .before .before .before .before .before .before .before .if1 .left) (c .before .before .before .before .before .before .before .before .if2 .left) (c .before .before .before .before .before .before .before .before .before .before .before .before .before .pre .1) (sym (rw (to-end (a .values .now) (a .used .bytes)) at (c .before .before .before .before .all-zero .ensures)) ∙ not-false _ (c .before .before .before .if3 .left)), sym (c .before .rows-sound .ensures) ∙ not-true _ (c .if5 .taken))
 
-returns-4 : tie.Need-returns-4
-unfolding escrowSound tableSound pass
-returns-4 c =
-    let a = c .before .before .before .before .before .before .before .before .before .before .args in
+returns-6 : tie.Need-returns-6
+unfolding escrowSound
+returns-6 c =
+    let a = c .before .before .before .before .before .before .before .before .before .before .before .before .before .before .args in
     rw (
-      le-leb _ _ (c .before .before .before .before .before .before .before .if1 .left),
-      le-leb _ _ (c .before .before .before .before .before .if2 .left),
-      sym (c .before .before .rows-sound .ensures) ∙ not-false _ (c .before .if3 .left),
-      few-differ escrowTable sameHandle (a .values .now) (a .rows) (a .used .rows) (c .if4 .taken),
+      used-rows escrowTable escrowRowRight sameHandle (a .rows) (a .values .now) (a .used) (c .before .before .before .before .before .before .before .before .before .before .before .if1 .left) (c .before .before .before .before .before .before .before .before .before .if2 .left) (c .before .before .before .before .before .before .before .before .before .before .before .before .before .before .pre .1) (sym (rw (to-end (a .values .now) (a .used .bytes)) at (c .before .before .before .before .before .all-zero .ensures)) ∙ not-false _ (c .before .before .before .before .if3 .left)),
+      sym (c .before .before .rows-sound .ensures) ∙ not-false _ (c .before .if5 .left),
+      few-differ escrowTable sameHandle (a .values .now) (a .rows) (a .used .rows) (c .if6 .taken),
     )
 
 handles-differ-requires : tie.Need-handles-differ-requires
 handles-differ-requires c κs = search needs
 
-returns-5 : tie.Need-returns-5
-unfolding escrowSound tableSound pass
-returns-5 c =
-    let a = c .before .before .before .before .before .before .before .before .before .before .before .args in
+returns-7 : tie.Need-returns-7
+unfolding escrowSound
+returns-7 c =
+    let a = c .before .before .before .before .before .before .before .before .before .before .before .before .before .before .before .args in
     rw (
-      le-leb _ _ (c .before .before .before .before .before .before .before .before .if1 .left),
-      le-leb _ _ (c .before .before .before .before .before .before .if2 .left),
-      sym (c .before .before .before .rows-sound .ensures) ∙ not-false _ (c .before .before .if3 .left),
-      and-nil,
+      used-rows escrowTable escrowRowRight sameHandle (a .rows) (a .values .now) (a .used) (c .before .before .before .before .before .before .before .before .before .before .before .before .if1 .left) (c .before .before .before .before .before .before .before .before .before .before .if2 .left) (c .before .before .before .before .before .before .before .before .before .before .before .before .before .before .before .pre .1) (sym (rw (to-end (a .values .now) (a .used .bytes)) at (c .before .before .before .before .before .before .all-zero .ensures)) ∙ not-false _ (c .before .before .before .before .before .if3 .left)),
+      sym (c .before .before .before .rows-sound .ensures) ∙ not-false _ (c .before .before .if5 .left),
     )
     (c .handles-differ .ensures (a .values .now))
 
@@ -65,8 +88,14 @@ escrow-sound-spec =
     returns-2
     cast-n
     cast-end
-    rows-sound-requires
+    sub-all-zero
+    part-all-zero-start
+    part-all-zero-end
+    all-zero-requires
     returns-3
     returns-4
+    rows-sound-requires
+    returns-5
+    returns-6
     handles-differ-requires
-    returns-5)
+    returns-7)

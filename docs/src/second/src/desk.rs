@@ -5,7 +5,7 @@
 use std::ops::RangeInclusive;
 
 use crate::tank::{Action, Correction, Tank, TankAnswer, TankRefusal};
-use crate::{call, write_call, Call, Tables};
+use crate::{call, write_call, Call, Refusal, Tables};
 
 /// The most tanks in a shift list.
 pub const SHIFT_MAX: usize = 8;
@@ -32,8 +32,12 @@ pub fn desk(tables: &mut Tables, output: &mut [u8], tank: &Tank) -> TankAnswer {
     }
 }
 
-/// Decides about 1 to 8 tanks in order, each with its own answer; 0. Any other list
-/// is refused whole, with 24, and no answer is written.
+/// Decides about 1 to 8 tanks in order, each with its own answer; 0. Answers of
+/// another count are a lent buffer that isn't of its size: 15. Then an empty or
+/// longer list is refused whole, with 24. No answer of a refused list is written.
+///
+/// Open: neither document gives the size of the buffer for the answers. Here it is
+/// one for each tank. Document 01's 15 comes first, as in its order.
 ///
 /// Open: document 02 doesn't give a list's code where tanks in it are refused. Here
 /// it is 0, since a tank's refusal is that tank's own answer.
@@ -43,7 +47,10 @@ pub fn shift(
     tanks: &[Tank],
     answers: &mut [TankAnswer],
 ) -> u8 {
-    if tanks.is_empty() || tanks.len() > SHIFT_MAX || answers.len() != tanks.len() {
+    if answers.len() != tanks.len() {
+        return Refusal::Unsound.code();
+    }
+    if tanks.is_empty() || tanks.len() > SHIFT_MAX {
         return TankRefusal::OutOfBounds.code();
     }
     for (tank, answer) in tanks.iter().zip(answers) {

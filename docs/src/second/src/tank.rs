@@ -43,7 +43,7 @@ impl Action {
 #[derive(Clone, Copy, Debug, PartialEq, Eq)]
 pub enum TankRefusal {
     /// The reading or the setpoint is outside -500 to 3,000. Of a list: it isn't of
-    /// 1 to 8 tanks, or the answers aren't as many as the tanks.
+    /// 1 to 8 tanks.
     OutOfBounds,
     /// The correction isn't logged: the box refused to check it, with this code, or
     /// its check said no, which is 0.

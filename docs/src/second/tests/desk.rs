@@ -120,8 +120,14 @@ impl Bench {
         answers
     }
 
-    fn refused_list(&mut self, tanks: &[Tank], lent: usize) {
-        assert_eq!(self.list(tanks, lent), (24, vec![UNWRITTEN; lent]));
+    /// A list that is empty or longer, with as many answers.
+    fn refused_list(&mut self, tanks: &[Tank]) {
+        assert_eq!(self.list(tanks, tanks.len()), (24, vec![UNWRITTEN; tanks.len()]));
+    }
+
+    /// A list with answers of another count.
+    fn wrong_answers(&mut self, tanks: &[Tank], lent: usize) {
+        assert_eq!(self.list(tanks, lent), (15, vec![UNWRITTEN; lent]));
     }
 }
 
@@ -457,7 +463,7 @@ fn lists_of_every_length() {
         if (1..=8).contains(&length) {
             assert_eq!(bench.accepted_list(&tanks[..length]), wanted[..length]);
         } else {
-            bench.refused_list(&tanks[..length], length);
+            bench.refused_list(&tanks[..length]);
         }
     }
     assert_eq!(SHIFT_MAX, 8);
@@ -499,13 +505,14 @@ fn one_tank_eight_times() {
     assert_eq!(bench.accepted_list(&[corrected(1, 0, FIFTY); 8]), [COOL; 8]);
 }
 
+/// Of empty and of longer lists too: 15 comes before 24.
 #[test]
 fn answers_of_another_count() {
     let mut bench = Bench::logged(&[ONE]);
     for count in 0..=10 {
         let tanks = vec![corrected(50, 0, ONE); count];
         for lent in (0..=10).filter(|&lent| lent != count) {
-            bench.refused_list(&tanks, lent);
+            bench.wrong_answers(&tanks, lent);
         }
     }
 }
@@ -516,9 +523,10 @@ fn lists_over_an_unsound_box() {
     let mut bench = Bench::logged(&[ONE]);
     bench.host.record.running = 17;
     let tank = corrected(50, 0, ONE);
-    bench.refused_list(&[], 0);
-    bench.refused_list(&[tank; 9], 9);
-    bench.refused_list(&[tank; 8], 7);
+    bench.refused_list(&[]);
+    bench.refused_list(&[tank; 9]);
+    bench.wrong_answers(&[tank; 8], 7);
+    bench.wrong_answers(&[tank; 9], 8);
     assert_eq!(bench.accepted_list(&[tank; 8]), [UNSOUND; 8]);
 }
 

@@ -1,6 +1,6 @@
 -- `desk::lent::lost` meets its contract. Assumes nothing.
 use borrow.Author.Tests.{eq-eqb, ne-eqb}
-use Rattle.caif.specs.Counted.{rowsLost}
+use Rattle.desk.specs.Counted.{rowsLost}
 use Rattle.desk.proofs.lent.lost.Statement.{statement}
 use Rattle.desk.proofs.lent.lost.Tie as tie
 

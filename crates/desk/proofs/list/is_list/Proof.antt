@@ -10,11 +10,7 @@ returns c = rw (lt-leb _ _ (c .if1 .taken))
 
 returns-2 : tie.Need-returns-2
 unfolding isList
-returns-2 c = rw (le-leb 1 _ (c .before .if1 .left), lt-leb _ 8 (c .if2 .taken))
-
-returns-3 : tie.Need-returns-3
-unfolding isList
-returns-3 c = rw (le-leb 1 _ (c .before .if1 .left), le-leb _ 8 (c .if2 .left))
+returns-2 c = rw (le-leb 1 _ (c .if1 .left))
 
 pub is-list-spec : {M : Type 1} → statement M
-is-list-spec = tie.close (tie.spec returns returns-2 returns-3)
+is-list-spec = tie.close (tie.spec returns returns-2)

@@ -1,6 +1,6 @@
 use borrow.Author.Needs.{needs}
-use Rattle.caif.proofs.counted.refused_rows.Statement.{statement}
-use Rattle.caif.proofs.counted.refused_rows.Tie as tie
+use Rattle.caif.proofs.refusal.refused_rows.Statement.{statement}
+use Rattle.caif.proofs.refusal.refused_rows.Tie as tie
 
 refused-requires : tie.Need-refused-requires
 refused-requires c κs = search needs
