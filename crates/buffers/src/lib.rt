@@ -1,11 +1,21 @@
-// Lent bytes: whether they are 0, or the same; copied, put, shown, cleared and taken out; and whether a range goes beyond a limit.
+// Lent bytes: whether they are 0, or the same; copied, put, shown, cleared and taken out; whether a range goes beyond a limit;
+// numbers in them, lowest byte first, and values after their counts.
 ghost use mathlib.Core.Path.{_≡_};
-ghost use Prim.Native.Nat.{_+_, _-_, _≤_};
+ghost use Prim.Native.Nat.{_+_, _-_, _≤_, _<_, _^_};
 ghost use lib.Dec.{ltb};
 ghost use lib.ListN.{length, replicate, take, drop};
 ghost use lib.Seq.{sets};
 ghost use mathlib.Core.List.{_++_};
 ghost use Rattle.lists.specs.Lists.{sameBytes, allZero};
+ghost use Rattle.fnv.specs.Fnv.{little};
+ghost use Rattle.record.specs.Read.{fromLittle};
+ghost use Rattle.buffers.specs.Counted.{countedAt, CountedWithin};
+
+// Where a value starts and ends that stands after its count; or the bytes end before it does.
+pub enum Counted {
+    At(usize, usize),
+    Cut,
+}
 
 // Whether the bytes are 0: joined by `|`, with no way out of the loop, so that it is compiled to vector code.
 fn part_zero(s: &[u8]) -> bool
@@ -123,4 +133,61 @@ pub fn take_out(dst: &mut [u8], n: usize)
     move_down(dst, n);
     let end = dst.len() - n;
     clear(&mut dst[end..]);
+}
+
+// A byte, with its bound, whatever the index it was read at.
+fn wide(x: u8) -> u64
+    ensures { λ r. ⌜ r ≡ x ⌝ }
+    ensures { λ r. ⌜ r < 256 ⌝ }
+{
+    x as u64
+}
+
+// The number of `width` bytes, lowest first. The highest is taken in first.
+pub fn number_at(bytes: &[u8], at: usize, width: usize) -> u64
+    requires { ⌜ at + width ≤ length (now bytes) ⌝ }
+    requires { ⌜ width ≤ 8 ⌝ }
+    ensures { λ r. ⌜ r ≡ fromLittle (take width (drop at (now (bytes .entry)))) ⌝ }
+    ensures { λ r. ⌜ r < 256 ^ width ⌝ }
+{
+    let mut x: u64 = 0;
+    let mut i = 0;
+    while i < width {
+        let j = width - 1 - i;
+        x = x * 256 + wide(bytes[at + j]);
+        i += 1;
+    }
+    x
+}
+
+// The `width` lowest bytes of x, lowest first, from `at` on.
+pub fn put_number(out: &mut [u8], at: usize, width: usize, x: u64)
+    requires { ⌜ at + width ≤ length (now out) ⌝ }
+    ensures { λ r. ⌜ now (out .exit) ≡ sets (now (out .entry)) at (little width x) ⌝ }
+{
+    let mut rest = x;
+    let mut i = 0;
+    while i < width {
+        out[at + i] = (rest % 256) as u8;
+        rest /= 256;
+        i += 1;
+    }
+}
+
+// The value at a position, after its count of 2 bytes.
+pub fn counted_at(bytes: &[u8], at: usize) -> Counted
+    requires { ⌜ at ≤ length (now bytes) ⌝ }
+    ensures { λ r. ⌜ r ≡ countedAt (now (bytes .entry)) at ⌝ }
+    ensures { λ r. ⌜ CountedWithin (now (bytes .entry)) r ⌝ }
+{
+    if bytes.len() - at < 2 {
+        return Counted::Cut;
+    }
+    let start = at + 2;
+    let count = number_at(bytes, at, 2) as usize;
+    if bytes.len() - start < count {
+        return Counted::Cut;
+    }
+    let end = start + count;
+    Counted::At(start, end)
 }

@@ -1,4 +1,4 @@
--- What the walks over lent rows and buffers name: the buffers, their room and their last lists; the machine values of a profile, a box record and a reply.
+-- What the walks over lent rows and buffers name: the buffers, their room and their last lists; the machine values of a profile and a reply.
 -- Assumes nothing.
 use Prim.Native.Nat.{ℕ}
 use mathlib.Core.List.{List, [], _∷_}
@@ -6,16 +6,14 @@ use lib.ListN.{length}
 use package.mir.Val.{Val}
 use denote.Builtin.{u8}
 use denote.Ref.{RefT, now}
-use denote.Slice.{sliceVal, Room}
+use denote.Slice.{Room}
 use denote.Laws.{Is}
 use denote.Enum.Laws as E
 use Rattle.ideal.specs.declared.Profile.{Profile}
 use Rattle.ideal.specs.declared.Profile.the-variants.{Full, LevelOne}
 use Rattle.ideal.proofs.Profile as P
 use Rattle.ideal.proofs.Profile.Laws as P′
-use Rattle.ideal.proofs.BoxRecord as B
-use Rattle.ideal.proofs.BoxRecord.Laws as B′
-use Rattle.rows.proofs.Kind.{Kind}
+use Rattle.lending.proofs.Kind.{Kind}
 use Rattle.caif.proofs.LentReply as Z
 use Rattle.caif.proofs.LentReply.Laws as Z′
 
@@ -30,19 +28,12 @@ pub profile-is : (p : Profile) → Is P.the-row p (pvals p)
 profile-is Full = E.owes P.the-type P′.the-laws Full tt
 profile-is LevelOne = E.owes P.the-type P′.the-laws LevelOne tt
 
-abbrev pub box : Kind
-box = record { type = B.the-type; laws = B′.the-laws; facts = B′.the-plain; copies = B′.the-copy; small = tt }
-
 abbrev pub reply : Kind
 reply = record { type = Z.the-type; laws = Z′.the-laws; facts = Z′.the-plain; copies = Z′.the-copy; small = tt }
 
 -- the lent byte buffers and the record's bytes
 abbrev pub Buffers : Type 0
 Buffers = RefT (List ℕ) × (RefT (List ℕ) × (RefT (List ℕ) × (RefT (List ℕ) × (RefT (List ℕ) × (RefT (List ℕ) × Unit {0})))))
-
--- a slice's machine value
-abbrev pub v : {X : Type 0} → RefT (List X) → Val
-v x = sliceVal (x .ptr) (length (now x))
 
 abbrev pub Rooms : Buffers → Type 0
 Rooms hs = Room u8 (length (now (hs .0))) × (Room u8 (length (now (hs .1 .0))) × (Room u8 (length (now (hs .1 .1 .0)))

@@ -2,26 +2,12 @@
 use Prim.Native.Nat.{ℕ}
 use mathlib.Core.List.{List}
 use Rattle.record.specs.Write.{WriteResult}
-use Rattle.ideal.specs.declared.BoxRecord.{BoxRecord}
 use Rattle.ideal.specs.declared.LogRow.{LogRow}
 use Rattle.ideal.specs.declared.EscrowRow.{EscrowRow}
-use Rattle.ideal.specs.Tables.{Tables}
+use Rattle.ideal.specs.Tables.{lentTables}
 use Rattle.calls.specs.Entry.{EntryResult}
 use Rattle.caif.specs.declared.LentReply.{LentReply}
 use Rattle.caif.specs.declared.WrittenReply.{WrittenReply}
-
--- a host's tables: the box record, and what it lends
-abbrev pub lentTables : BoxRecord → List LogRow → List EscrowRow → (heaps shared logValues escrowValues : List ℕ) → Tables
-lentTables b log escrow heaps shared logValues escrowValues =
-    record {
-      box = b;
-      heaps = heaps;
-      shared = shared;
-      logRows = log;
-      logValues = logValues;
-      escrowRows = escrow;
-      escrowValues = escrowValues;
-    }
 
 -- the reply, with the lent rows and buffers at exit
 abbrev pub lentResult : LentReply → List LogRow → List EscrowRow → (heaps shared logValues escrowValues output : List ℕ)

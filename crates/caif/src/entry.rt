@@ -1,8 +1,9 @@
 // What both entries call.
 ghost use mathlib.Core.Path.{_≡_};
 ghost use Rattle.ideal.specs.LevelOne.{boxOf};
+ghost use Rattle.ideal.specs.Tables.{lentTables};
 ghost use Rattle.calls.specs.Entry.{entryOn};
-ghost use Rattle.caif.specs.Lent.{lentTables, lentResult};
+ghost use Rattle.caif.specs.Lent.{lentResult};
 use crate::LentReply;
 use crate::lent::lent_call;
 use ideal::BoxRecord;

@@ -1,11 +1,12 @@
 // The box over lent rows, in a profile.
 ghost use mathlib.Core.Path.{_≡_};
 ghost use Rattle.ideal.specs.LevelOne.{boxOf};
+ghost use Rattle.ideal.specs.Tables.{lentTables};
 ghost use Rattle.calls.specs.Entry.{entryOn};
-ghost use Rattle.caif.specs.Lent.{lentTables, lentResult};
+ghost use Rattle.caif.specs.Lent.{lentResult};
 use crate::LentReply;
 use crate::refusal::refused_rows;
-use calls::call_blank;
+use calls::call;
 use ideal::BoxRecord;
 use ideal::EscrowRow;
 use ideal::LogRow;
@@ -13,9 +14,9 @@ use ideal::Profile;
 use rows::copy_escrow;
 use rows::copy_log;
 use rows::edit_escrow;
-use rows::edit_log;
 use rows::escrow_unfit;
 use rows::log_unfit;
+use rows::put_log_row;
 
 // One record in a profile on any box, over lent rows and buffers of any count.
 pub fn lent_call(
@@ -45,7 +46,7 @@ pub fn lent_call(
     }
     let l = copy_log(&*log);
     let e = copy_escrow(&*escrow);
-    let c = call_blank(
+    let c = call(
         profile,
         held,
         l,
@@ -57,13 +58,7 @@ pub fn lent_call(
         output,
         bytes,
     );
-    edit_log(
-        log,
-        c.edits.log.put,
-        c.edits.log.at,
-        c.edits.log.row,
-        c.edits.log.fall,
-    );
+    put_log_row(log, c.edits.log.put, c.edits.log.at, c.edits.log.row);
     edit_escrow(
         escrow,
         c.edits.escrow.put,

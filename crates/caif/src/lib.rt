@@ -5,11 +5,11 @@ mod refusal;
 mod writing;
 
 ghost use mathlib.Core.Path.{_≡_};
-ghost use Rattle.ideal.specs.Tables.{freshTables};
+ghost use Rattle.ideal.specs.Tables.{freshTables, lentTables};
 ghost use Rattle.ideal.specs.Box.{callOn};
 ghost use Rattle.ideal.specs.LevelOne.{levelOneOn};
 ghost use Rattle.calls.specs.Entry.{entryOn};
-ghost use Rattle.caif.specs.Lent.{lentTables, lentResult};
+ghost use Rattle.caif.specs.Lent.{lentResult};
 use entry::entry_call;
 use ideal::BoxRecord;
 use ideal::EscrowRow;

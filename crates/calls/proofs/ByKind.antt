@@ -5,7 +5,7 @@ use mathlib.Core.List.{List, []}
 use Rattle.record.specs.declared.Call as code
 use Rattle.record.specs.declared.Call.the-variants.{Create, Exit, HeapWrite, HeapRead, SharedWrite, SharedRead, Attest, Check, Protect, Retrieve, Report, HandOver, Chain, Release}
 use Rattle.record.specs.Call.{Call}
-use Rattle.record.specs.Meaning.{bytesIn, wayIn, numberIn, callIn}
+use Rattle.record.specs.Meaning.{bytesIn, linkIn, callIn}
 use Rattle.ideal.specs.Step.{stepBy}
 use Rattle.ideal.specs.Tables.{Tables, tables, stateOf}
 use Rattle.ideal.specs.Box.{Result, laid, outputAfter}
@@ -73,7 +73,7 @@ byKind t output bytes Report = replied t (reportOn (t .box)) output
 byKind t output bytes (HandOver p) = repliedBox t (handOverOn (t .box) p) (t .heaps) output
 byKind t output bytes (Chain i f part) =
     replied t
-    (chainAnswer (t .box) (t .logRows) (t .escrowRows) (t .logValues) (t .escrowValues) (wayIn f) i (numberIn f) (bytesIn bytes part)) output
+    (chainAnswer (t .box) (t .logRows) (t .escrowRows) (t .logValues) (t .escrowValues) (linkIn i f) (bytesIn bytes part)) output
 byKind t output bytes (Release i h) =
     let r = releaseOn (t .box) (t .escrowRows) (t .escrowValues) i h in
     replied (onEscrow t r) (r .change .answer) output
@@ -123,7 +123,7 @@ module _ (t : Tables) (k : Valid (stateOf t)) (e : tables (stateOf t) ≡ t) (ou
   by-kind-valid (Retrieve i o h) = shows-none _ _ output (retrieve-step t k e i o h 0) (answered-alone _ _)
   by-kind-valid Report = shows-none _ _ output (report-step t k e 0) (answered-alone _ _)
   by-kind-valid (HandOver p) = shows-none _ _ output (hand-over-step t k e p 0) (answered-alone _ _)
-  by-kind-valid (Chain i f part) = shows-none _ _ output (chain-step t e (wayIn f) i (numberIn f) (bytesIn bytes part) 0) (answered-alone _ _)
+  by-kind-valid (Chain i f part) = shows-none _ _ output (chain-step t e (linkIn i f) (bytesIn bytes part) 0) (answered-alone _ _)
   by-kind-valid (Release i h) =
       shows-none _ _ output (release-step t k e i h 0) (release-alone (t .box) (t .escrowRows) (t .escrowValues) i h)
 

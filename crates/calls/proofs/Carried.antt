@@ -9,9 +9,10 @@ use Rattle.record.specs.declared.Part.{Part}
 use Rattle.record.specs.declared.First.{First}
 use Rattle.record.specs.declared.Call as code
 use Rattle.record.specs.declared.Call.the-variants.{Create, Exit, HeapWrite, HeapRead, SharedWrite, SharedRead, Attest, Check, Protect, Retrieve, Report, HandOver, Chain, Release}
-use Rattle.record.specs.Meaning.{bytesIn, wayIn, numberIn, callIn}
+use Rattle.record.specs.Meaning.{bytesIn, linkIn, callIn}
 use Rattle.ideal.specs.declared.BoxRecord.{BoxRecord}
 use Rattle.ideal.specs.Layouts.{Sound}
+use Rattle.ideal.specs.Tables.{lentTables}
 use Rattle.state.specs.declared.LogTable.{LogTable}
 use Rattle.state.specs.declared.EscrowTable.{EscrowTable}
 use Rattle.state.specs.declared.Answer.{Answer}
@@ -26,7 +27,6 @@ use Rattle.escrow.specs.Narrow.{protectOn}
 use Rattle.retrieval.specs.Narrow.{retrieveAnswer, retrieveHeaps}
 use Rattle.chain.specs.Narrow.{chainAnswer}
 use Rattle.release.specs.Narrow.{releaseOn}
-use Rattle.soundness.specs.Parts.{tablesOf}
 use Rattle.state.proofs.Edited.{counts-kept}
 use Rattle.log.proofs.Bridge.{attest-edits}
 use Rattle.escrow.proofs.Bridge.{protect-edits}
@@ -41,7 +41,7 @@ module _
     {escrow : EscrowTable}
     {heaps shared lv ev : List ℕ}
     {n : ℕ}
-    (s : Sound (tablesOf b log escrow heaps shared lv ev) n)
+    (s : Sound (lentTables b (log .rows) (escrow .rows) heaps shared lv ev) n)
     (output bytes : List ℕ)
     (called : code.Call)
   where
@@ -51,55 +51,55 @@ module _
       pub heap-written : {p o : ℕ} {part : Part} {v left : List ℕ} → called ≡ HeapWrite p o part → v ≡ bytesIn bytes part
           → a ≡ heapWriteAnswer b p o v → left ≡ heapWriteHeaps b heaps p o v
           → resultOf log escrow (unchanged b a) left shared lv ev output
-          ≡ carriedOn (tablesOf b log escrow heaps shared lv ev) (callIn bytes called) output
+          ≡ carriedOn (lentTables b (log .rows) (escrow .rows) heaps shared lv ev) (callIn bytes called) output
       unfolding byKind
       heap-written e f g h = by-kind s output bytes called (rw (e, g, h, f))
 
       pub heap-shown : {p o k : ℕ} {left : List ℕ} → called ≡ HeapRead p o k → a ≡ heapReadAnswer b p o k
           → left ≡ heapReadOutput b heaps output p o k
           → resultOf log escrow (unchanged b a) heaps shared lv ev left
-          ≡ carriedOn (tablesOf b log escrow heaps shared lv ev) (callIn bytes called) output
+          ≡ carriedOn (lentTables b (log .rows) (escrow .rows) heaps shared lv ev) (callIn bytes called) output
       unfolding byKind
       heap-shown e g h = by-kind s output bytes called (rw (e, g, h))
 
       pub shared-written : {o : ℕ} {part : Part} {v left : List ℕ} → called ≡ SharedWrite o part → v ≡ bytesIn bytes part
           → a ≡ sharedWriteAnswer o v → left ≡ sharedWriteShared shared o v
           → resultOf log escrow (unchanged b a) heaps left lv ev output
-          ≡ carriedOn (tablesOf b log escrow heaps shared lv ev) (callIn bytes called) output
+          ≡ carriedOn (lentTables b (log .rows) (escrow .rows) heaps shared lv ev) (callIn bytes called) output
       unfolding byKind
       shared-written e f g h = by-kind s output bytes called (rw (e, g, h, f))
 
       pub shared-shown : {o k : ℕ} {left : List ℕ} → called ≡ SharedRead o k → a ≡ sharedReadAnswer o k
           → left ≡ sharedReadOutput shared output o k
           → resultOf log escrow (unchanged b a) heaps shared lv ev left
-          ≡ carriedOn (tablesOf b log escrow heaps shared lv ev) (callIn bytes called) output
+          ≡ carriedOn (lentTables b (log .rows) (escrow .rows) heaps shared lv ev) (callIn bytes called) output
       unfolding byKind
       shared-shown e g h = by-kind s output bytes called (rw (e, g, h))
 
       pub checked : {i : ℕ} {g : Tag} {part : Part} {v : List ℕ} → called ≡ Check i g part → v ≡ bytesIn bytes part
           → a ≡ checkOn b (log .rows) lv i g v
           → resultOf log escrow (unchanged b a) heaps shared lv ev output
-          ≡ carriedOn (tablesOf b log escrow heaps shared lv ev) (callIn bytes called) output
+          ≡ carriedOn (lentTables b (log .rows) (escrow .rows) heaps shared lv ev) (callIn bytes called) output
       unfolding byKind
       checked e f g = by-kind s output bytes called (rw (e, g, f))
 
       pub retrieved : {i o : ℕ} {h : Handle} {left : List ℕ} → called ≡ Retrieve i o h
           → a ≡ retrieveAnswer b (escrow .rows) ev i o h → left ≡ retrieveHeaps b (escrow .rows) heaps ev i o h
           → resultOf log escrow (unchanged b a) left shared lv ev output
-          ≡ carriedOn (tablesOf b log escrow heaps shared lv ev) (callIn bytes called) output
+          ≡ carriedOn (lentTables b (log .rows) (escrow .rows) heaps shared lv ev) (callIn bytes called) output
       unfolding byKind
       retrieved e g h = by-kind s output bytes called (rw (e, g, h))
 
       pub followed : {i : ℕ} {first : First} {part : Part} {v : List ℕ} → called ≡ Chain i first part → v ≡ bytesIn bytes part
-          → a ≡ chainAnswer b (log .rows) (escrow .rows) lv ev (wayIn first) i (numberIn first) v
+          → a ≡ chainAnswer b (log .rows) (escrow .rows) lv ev (linkIn i first) v
           → resultOf log escrow (unchanged b a) heaps shared lv ev output
-          ≡ carriedOn (tablesOf b log escrow heaps shared lv ev) (callIn bytes called) output
+          ≡ carriedOn (lentTables b (log .rows) (escrow .rows) heaps shared lv ev) (callIn bytes called) output
       unfolding byKind
       followed e f g = by-kind s output bytes called (rw (e, g, f))
 
       pub reported : called ≡ Report → a ≡ reportOn b
           → resultOf log escrow (unchanged b a) heaps shared lv ev output
-          ≡ carriedOn (tablesOf b log escrow heaps shared lv ev) (callIn bytes called) output
+          ≡ carriedOn (lentTables b (log .rows) (escrow .rows) heaps shared lv ev) (callIn bytes called) output
       unfolding byKind
       reported e g = by-kind s output bytes called (rw (e, g))
 
@@ -109,7 +109,7 @@ module _
     abbrev Carries : Change → (heaps shared logValues escrowValues output : List ℕ) → Type 0
     Carries r heaps′ shared′ lv′ ev′ output′ =
         (resultOf log escrow r heaps′ shared′ lv′ ev′ output′
-        ≡ carriedOn (tablesOf b log escrow heaps shared lv ev) (callIn bytes called) output)
+        ≡ carriedOn (lentTables b (log .rows) (escrow .rows) heaps shared lv ev) (callIn bytes called) output)
         × EditsBy b (escrow .rows) (r .held) (r .edits)
 
     module _ {r : Change} where

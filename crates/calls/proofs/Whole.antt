@@ -1,9 +1,9 @@
 -- What the reader finds, and what the first test says, of the whole box. Assumes nothing.
 use Prim.Native.Nat.{ℕ, zero, suc}
-use mathlib.Core.Path.{_≡_, refl, sym, ap, _∙_}
-use mathlib.Core.Bool.{true, false, cond, true≢false}
+use mathlib.Core.Path.{_≡_, refl, ap, _∙_}
+use mathlib.Core.Bool.{_&&_, true, false, cond, true≢false}
 use mathlib.Core.List.{List}
-use lib.ListN.{length, drop}
+use lib.ListN.{length}
 use lib.Dec.{eqb}
 use borrow.Author.Tests.{eqb-true}
 use Rattle.record.specs.Call.{Call}
@@ -12,16 +12,15 @@ use Rattle.record.specs.declared.Reading as found
 use Rattle.record.specs.declared.Reading.the-variants.{Whole}
 use Rattle.record.specs.Read.{refused, read}
 use Rattle.record.specs.Meaning.{callIn, readingIn}
-use Rattle.ideal.specs.State.{State, every}
+use Rattle.ideal.specs.State.{State}
 use Rattle.ideal.specs.Step.{refusal, refuse, refusedAnswer, accepted, settle, stepBy, readingBy, stepOnBy}
-use Rattle.ideal.specs.Tables.{Tables, logTable, escrowTable, stateOf}
-use Rattle.ideal.specs.Soundness.{pass, sizesRight, sound}
+use Rattle.ideal.specs.Tables.{Tables, stateOf}
+use Rattle.ideal.specs.Soundness.{pass, tablesSized, sizesRight, sound}
 use Rattle.ideal.specs.Box.{laid, unsound, boxBy, outputAfter}
 use Rattle.ideal.specs.Layouts.{Sound}
 use Rattle.ideal.specs.declared.Profile.{Profile}
 use Rattle.ideal.specs.LevelOne.{refusalIn, boxOf}
-use Rattle.lists.proofs.Bools.{by-cases, and-left, and-right}
-use Rattle.ideal.proofs.Facts.{facts}
+use Rattle.lists.proofs.Bools.{and-left, and-right}
 use Rattle.ideal.proofs.Laid.{valid-sound, tables-state}
 use Rattle.ideal.specs.declared.BoxRecord.{BoxRecord}
 use Rattle.state.specs.declared.LogTable.{LogTable}
@@ -109,29 +108,28 @@ module _ (refuses : State → Call → ℕ) (t : Tables) (bytes output : List �
   unfolding readyOn entryOn boxBy unsound resultOn refusedAnswer outputAfter
   refused-entry h = rw h
 
-pub sound-entry : (p : Profile) (t : Tables) (bytes output : List ℕ) → readyOn t (length output) ≡ true
+pub sound-entry : (p : Profile) (t : Tables) (bytes output : List ℕ) → Sound t (length output)
     → soundOn p t bytes output ≡ entryOn (boxOf p) t bytes output
-unfolding readyOn entryOn boxBy soundOn
-sound-entry p t bytes output h = rw h
+unfolding entryOn boxBy soundOn
+sound-entry p t bytes output s = rw (s .sizes, s .box)
 
 pub ready-sound : (t : Tables) (n : ℕ) → readyOn t n ≡ true → Sound t n
 unfolding readyOn
 ready-sound t n h =
     record { sizes = and-left (sizesRight t n) (sound t) h; box = and-right (sizesRight t n) (sound t) h }
 
--- no ready box has unused rows that aren't blank
-pub log-not-ready : (t : Tables) (n : ℕ) → every (logTable .isBlank) (drop (t .box .log .rows) (t .logRows)) ≡ false → readyOn t n ≡ false
-log-not-ready t n e =
-    by-cases (readyOn t n) (λ h. absurd (true≢false (sym (facts t n (ready-sound t n h) .log .blank) ∙ e))) (λ h. h)
+pub unready : (t : Tables) (n : ℕ) → sizesRight t n && sound t ≡ false → readyOn t n ≡ false
+unfolding readyOn
+unready t n h = h
 
-pub escrow-not-ready : (t : Tables) (n : ℕ) → every (escrowTable .isBlank) (drop (t .box .escrow .rows) (t .escrowRows)) ≡ false → readyOn t n ≡ false
-escrow-not-ready t n e =
-    by-cases (readyOn t n) (λ h. absurd (true≢false (sym (facts t n (ready-sound t n h) .escrow .blank) ∙ e))) (λ h. h)
+pub not-ready : (t : Tables) (n : ℕ) → readyOn t n ≡ false → sizesRight t n && sound t ≡ false
+unfolding readyOn
+not-ready t n h = h
 
 pub sizes-lent : (t : Tables) (n : ℕ) → sizesRight t n ≡ true → Lent (t .heaps) (t .logValues) (t .escrowValues)
-unfolding sizesRight pass
+unfolding sizesRight tablesSized pass
 sizes-lent t n h =
-    let h₁ = and-right (eqb (length (t .box .identities)) 16) _ h in
+    let h₁ = and-right (eqb (length (t .box .identities)) 16) _ (and-left (tablesSized t) _ h) in
     let h₂ = and-right (eqb (length (t .heaps)) 4096) _ h₁ in
     let h₃ = and-right (eqb (length (t .shared)) 1024) _ h₂ in
     let h₄ = and-right (eqb (length (t .logRows)) 64) _ h₃ in

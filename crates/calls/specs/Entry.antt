@@ -1,9 +1,9 @@
 -- What the entry leaves and answers. The contract of `call` equates the code's `resultOf` with the definition's `entryOn`.
-use Prim.Native.Nat.{ℕ}
+use Prim.Native.Nat.{ℕ, _≤_, _<_}
 use mathlib.Core.Path.{_≡_}
 use mathlib.Core.Bool.{Bool, false, _&&_}
 use mathlib.Core.List.{List}
-use lib.ListN.{length}
+use lib.ListN.{length, getD}
 use Rattle.record.specs.Call.{Call}
 use Rattle.ideal.specs.declared.Profile.{Profile}
 use Rattle.ideal.specs.declared.Profile.the-variants.{Full}
@@ -17,8 +17,7 @@ use Rattle.state.specs.declared.LogTable.{LogTable}
 use Rattle.state.specs.declared.EscrowTable.{EscrowTable}
 use Rattle.state.specs.declared.Answer.{Answer}
 use Rattle.state.specs.declared.Change.{Change}
-use Rattle.state.specs.Edits.{logWith, escrowWith}
-use Rattle.soundness.specs.Parts.{tablesOf}
+use Rattle.state.specs.Edits.{changed}
 
 pub record EntryResult : Type 0 where
   -- the box record, the heaps, shared memory, the rows and the value bytes of the log and of the escrow
@@ -32,8 +31,7 @@ pub record EntryResult : Type 0 where
 abbrev pub resultOf : LogTable → EscrowTable → Change → (heaps shared logValues escrowValues output : List ℕ) → EntryResult
 resultOf log escrow c heaps shared logValues escrowValues output =
     record {
-      tables =
-          tablesOf (c .held) (logWith (c .edits .log) log) (escrowWith (c .edits .escrow) escrow) heaps shared logValues escrowValues;
+      tables = changed c (log .rows) (escrow .rows) heaps shared logValues escrowValues;
       answer = c .answer;
       output = output;
     }
@@ -71,6 +69,18 @@ EntryRefuses box = (t : Tables) (bytes output : List ℕ) → (entryOn box t byt
 abbrev pub EntryElseFull : (Tables → Element → Result) → Type 0
 EntryElseFull box = (t : Tables) (bytes output : List ℕ) → barring (entryOn box t bytes output .answer .code) ≡ false
     → entryOn box t bytes output ≡ entryOn callOn t bytes output
+
+-- the output buffer a second time, byte by byte: it begins with the bytes shown, and each byte behind them is what it was
+pub record Shows (shown before after : List ℕ) : Type 0 where
+  pub size : length after ≡ length before
+  pub front : (i : ℕ) → i < length shown → getD after i 0 ≡ getD shown i 0
+  pub behind : (i : ℕ) → length shown ≤ i → getD after i 0 ≡ getD before i 0
+
+-- of any box, where what it shows fits
+abbrev pub EntryShows : Type 0
+EntryShows = (box : Tables → Element → Result) (t : Tables) (bytes output : List ℕ)
+    → let shown = box t (given bytes (length output)) .answer .shown in
+    length shown ≤ length output → Shows shown output (entryOn box t bytes output .output)
 
 -- ---- its parts
 

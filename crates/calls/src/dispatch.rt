@@ -3,7 +3,7 @@ ghost use mathlib.Core.Path.{_≡_};
 ghost use lib.ListN.{length};
 ghost use Rattle.record.specs.Meaning.{bytesIn, callIn, PartWithin, CallWithin};
 ghost use Rattle.ideal.specs.Layouts.{Sound};
-ghost use Rattle.soundness.specs.Parts.{tablesOf};
+ghost use Rattle.ideal.specs.Tables.{lentTables};
 ghost use Rattle.calls.specs.Entry.{resultOf, carriedIn, carriedOn};
 ghost use Rattle.state.specs.Edits.{unchanged, EditsBy};
 ghost use Rattle.calls.specs.Alone.{Alone};
@@ -57,13 +57,13 @@ fn answer_alone(
     called: Call,
 ) -> Answer
     requires { ⌜
-        Sound (tablesOf held log escrow (now heaps) (now shared) (now «log_values») (now «escrow_values»)) (length (now output))
+        Sound (lentTables held (log .rows) (escrow .rows) (now heaps) (now shared) (now «log_values») (now «escrow_values»)) (length (now output))
         ⌝ }
     requires { ⌜ CallWithin (now bytes) called ⌝ }
     requires { ⌜ Alone called ⌝ }
     ensures { λ r. ⌜
         resultOf log escrow (unchanged held r) (now (heaps .exit)) (now (shared .exit)) (now («log_values» .exit)) (now («escrow_values» .exit)) (now (output .exit))
-        ≡ carriedOn (tablesOf held log escrow (now (heaps .entry)) (now (shared .entry)) (now («log_values» .entry)) (now («escrow_values» .entry)))
+        ≡ carriedOn (lentTables held (log .rows) (escrow .rows) (now (heaps .entry)) (now (shared .entry)) (now («log_values» .entry)) (now («escrow_values» .entry)))
         (callIn (now (bytes .entry)) called) (now (output .entry))
         ⌝ }
 {
@@ -125,12 +125,12 @@ fn carry_out(
     called: Call,
 ) -> Change
     requires { ⌜
-        Sound (tablesOf held log escrow (now heaps) (now shared) (now «log_values») (now «escrow_values»)) (length (now output))
+        Sound (lentTables held (log .rows) (escrow .rows) (now heaps) (now shared) (now «log_values») (now «escrow_values»)) (length (now output))
         ⌝ }
     requires { ⌜ CallWithin (now bytes) called ⌝ }
     ensures { λ r. ⌜
         resultOf log escrow r (now (heaps .exit)) (now (shared .exit)) (now («log_values» .exit)) (now («escrow_values» .exit)) (now (output .exit))
-        ≡ carriedOn (tablesOf held log escrow (now (heaps .entry)) (now (shared .entry)) (now («log_values» .entry)) (now («escrow_values» .entry)))
+        ≡ carriedOn (lentTables held (log .rows) (escrow .rows) (now (heaps .entry)) (now (shared .entry)) (now («log_values» .entry)) (now («escrow_values» .entry)))
         (callIn (now (bytes .entry)) called) (now (output .entry))
         ⌝ }
     ensures { λ r. ⌜ EditsBy held (escrow .rows) (r .held) (r .edits) ⌝ }
@@ -183,12 +183,12 @@ pub fn carry_out_in(
     called: Call,
 ) -> Change
     requires { ⌜
-        Sound (tablesOf held log escrow (now heaps) (now shared) (now «log_values») (now «escrow_values»)) (length (now output))
+        Sound (lentTables held (log .rows) (escrow .rows) (now heaps) (now shared) (now «log_values») (now «escrow_values»)) (length (now output))
         ⌝ }
     requires { ⌜ CallWithin (now bytes) called ⌝ }
     ensures { λ r. ⌜
         resultOf log escrow r (now (heaps .exit)) (now (shared .exit)) (now («log_values» .exit)) (now («escrow_values» .exit)) (now (output .exit))
-        ≡ carriedIn profile (tablesOf held log escrow (now (heaps .entry)) (now (shared .entry)) (now («log_values» .entry)) (now («escrow_values» .entry)))
+        ≡ carriedIn profile (lentTables held (log .rows) (escrow .rows) (now (heaps .entry)) (now (shared .entry)) (now («log_values» .entry)) (now («escrow_values» .entry)))
         (callIn (now (bytes .entry)) called) (now (output .entry))
         ⌝ }
     ensures { λ r. ⌜ EditsBy held (escrow .rows) (r .held) (r .edits) ⌝ }

@@ -6,7 +6,8 @@ ghost use mathlib.Core.Path.{_≡_};
 ghost use lib.ListN.{length};
 ghost use Rattle.ideal.specs.Layouts.{Sound};
 ghost use Rattle.ideal.specs.LevelOne.{boxOf};
-ghost use Rattle.soundness.specs.Parts.{tablesOf, RestBlank};
+ghost use Rattle.ideal.specs.Tables.{lentTables};
+ghost use Rattle.state.specs.Parts.{RestBlank};
 ghost use Rattle.state.specs.Answers.{refusedWith};
 ghost use Rattle.state.specs.Edits.{unchanged, EditsBy};
 ghost use Rattle.calls.specs.Entry.{resultOf, withUsed, cutWith, readyOn, soundOn, entryOn};
@@ -15,8 +16,6 @@ use ideal::Profile;
 use reader::read_call;
 use record::Reading;
 use sound::box_sound;
-use sound::escrow_rest_blank;
-use sound::log_rest_blank;
 use sound::sizes_right;
 use state::Change;
 use state::EscrowTable;
@@ -66,7 +65,7 @@ pub fn is_ready(
 ) -> bool
     requires { ⌜ RestBlank held (log .rows) (escrow .rows) ⌝ }
     ensures { λ r. ⌜
-        r ≡ readyOn (tablesOf held log escrow (now (heaps .entry)) (now (shared .entry)) (now («log_values» .entry)) (now («escrow_values» .entry)))
+        r ≡ readyOn (lentTables held (log .rows) (escrow .rows) (now (heaps .entry)) (now (shared .entry)) (now («log_values» .entry)) (now («escrow_values» .entry)))
         (length (now (output .entry)))
         ⌝ }
 {
@@ -90,11 +89,11 @@ pub fn call_sound(
     bytes: &[u8],
 ) -> Change
     requires { ⌜
-        Sound (tablesOf held log escrow (now heaps) (now shared) (now «log_values») (now «escrow_values»)) (length (now output))
+        Sound (lentTables held (log .rows) (escrow .rows) (now heaps) (now shared) (now «log_values») (now «escrow_values»)) (length (now output))
         ⌝ }
     ensures { λ r. ⌜
         resultOf log escrow r (now (heaps .exit)) (now (shared .exit)) (now («log_values» .exit)) (now («escrow_values» .exit)) (now (output .exit))
-        ≡ soundOn profile (tablesOf held log escrow (now (heaps .entry)) (now (shared .entry)) (now («log_values» .entry)) (now («escrow_values» .entry)))
+        ≡ soundOn profile (lentTables held (log .rows) (escrow .rows) (now (heaps .entry)) (now (shared .entry)) (now («log_values» .entry)) (now («escrow_values» .entry)))
         (now (bytes .entry)) (now (output .entry))
         ⌝ }
     ensures { λ r. ⌜ EditsBy held (escrow .rows) (r .held) (r .edits) ⌝ }
@@ -123,7 +122,7 @@ pub fn call_sound(
 }
 
 // One record in a profile on any box whose unused rows are blank, with buffers of any length.
-pub fn call_blank(
+pub fn call(
     profile: Profile,
     held: BoxRecord,
     log: LogTable,
@@ -138,7 +137,7 @@ pub fn call_blank(
     requires { ⌜ RestBlank held (log .rows) (escrow .rows) ⌝ }
     ensures { λ r. ⌜
         resultOf log escrow r (now (heaps .exit)) (now (shared .exit)) (now («log_values» .exit)) (now («escrow_values» .exit)) (now (output .exit))
-        ≡ entryOn (boxOf profile) (tablesOf held log escrow (now (heaps .entry)) (now (shared .entry)) (now («log_values» .entry)) (now («escrow_values» .entry)))
+        ≡ entryOn (boxOf profile) (lentTables held (log .rows) (escrow .rows) (now (heaps .entry)) (now (shared .entry)) (now («log_values» .entry)) (now («escrow_values» .entry)))
         (now (bytes .entry)) (now (output .entry))
         ⌝ }
     ensures { λ r. ⌜ EditsBy held (escrow .rows) (r .held) (r .edits) ⌝ }
@@ -156,50 +155,6 @@ pub fn call_blank(
         return refuse_unsound(held);
     }
     call_sound(
-        profile,
-        held,
-        log,
-        escrow,
-        heaps,
-        shared,
-        log_values,
-        escrow_values,
-        output,
-        bytes,
-    )
-}
-
-// One record in a profile on any box, with buffers of any length.
-pub fn call(
-    profile: Profile,
-    held: BoxRecord,
-    log: LogTable,
-    escrow: EscrowTable,
-    heaps: &mut [u8],
-    shared: &mut [u8],
-    log_values: &mut [u8],
-    escrow_values: &mut [u8],
-    output: &mut [u8],
-    bytes: &[u8],
-) -> Change
-    ensures { λ r. ⌜
-        resultOf log escrow r (now (heaps .exit)) (now (shared .exit)) (now («log_values» .exit)) (now («escrow_values» .exit)) (now (output .exit))
-        ≡ entryOn (boxOf profile) (tablesOf held log escrow (now (heaps .entry)) (now (shared .entry)) (now («log_values» .entry)) (now («escrow_values» .entry)))
-        (now (bytes .entry)) (now (output .entry))
-        ⌝ }
-    ensures { λ r. ⌜ EditsBy held (escrow .rows) (r .held) (r .edits) ⌝ }
-{
-    let log_rows = log.rows;
-    let log_used = held.log;
-    if !log_rest_blank(log_rows, log_used.rows as usize) {
-        return refuse_unsound(held);
-    }
-    let escrow_rows = escrow.rows;
-    let escrow_used = held.escrow;
-    if !escrow_rest_blank(escrow_rows, escrow_used.rows as usize) {
-        return refuse_unsound(held);
-    }
-    call_blank(
         profile,
         held,
         log,

@@ -1,7 +1,7 @@
 -- The outcomes of a link, as its function meets them: none is left, a refusal, and what a head leads to. Assumes nothing.
 use Prim.Native.Nat.{ℕ, zero, suc, _+_, _-_, _≤_}
 use mathlib.Core.Path.{_≡_, refl, sym, ap, subst, _∙_}
-use mathlib.Core.Bool.{Bool, true, false, not, _&&_, _||_}
+use mathlib.Core.Bool.{Bool, true, false, not}
 use mathlib.Core.List.{List}
 use mathlib.Core.Option.{Option}
 use native.Mathlib.Numerals.{sub-one}
@@ -12,17 +12,18 @@ use lib.Dec.{eqb}
 use borrow.Author.Tests.{eq-eqb, ne-eqb, eqb-false}
 use Rattle.fnv.specs.declared.Tag.{Tag}
 use Rattle.record.specs.declared.Handle.{Handle}
+use Rattle.record.specs.Call.{Link, loggedLink, escrowedLink, identityOf}
 use Rattle.record.specs.Layout.{OrRefusal, gives, refuses}
 use Rattle.ideal.specs.declared.BoxRecord.{BoxRecord}
 use Rattle.ideal.specs.declared.LogRow.{LogRow}
 use Rattle.ideal.specs.declared.EscrowRow.{EscrowRow}
 use Rattle.ideal.specs.State.{Logged, Escrowed, find}
-use Rattle.ideal.specs.Step.{isEscrowed, Link, Head, malformed, ends, leads, headOf, isMalformed, afterHead, linksAfter, nextCut, bytesAfter, linkValue, unvouched, Tests, accept, _then_, firstHolding, follow, linksFrom}
+use Rattle.ideal.specs.Step.{isEscrowed, Head, malformed, ends, leads, headOf, isMalformed, afterHead, linksAfter, unreadable, bytesAfter, linkValue, unvouched, Tests, accept, _then_, firstHolding, follow, linksFrom}
 use Rattle.state.specs.declared.Answer.{Answer}
 use Rattle.state.specs.Answers.{refusedWith, settled, answered}
 use Rattle.chain.specs.declared.Head as code
 use Rattle.chain.specs.declared.Head.the-variants as case
-use Rattle.chain.specs.Meaning.{loggedLink, escrowedLink, headIn, ValueAndRest}
+use Rattle.chain.specs.Meaning.{headIn, ValueAndRest}
 use Rattle.ideal.specs.Tables.{logTable, escrowTable, entriesOf}
 use Rattle.ideal.specs.Fit.{RowsFit}
 use Rattle.state.specs.Parts.{callerOf, logOf, TableFits}
@@ -31,27 +32,23 @@ use Rattle.chain.specs.Columns.{loggedRow, escrowedRow, rowsFrom, foundI
 use Rattle.chain.specs.Narrow.{linkRefusal, vouched, followedFrom, LinkFits, chainFrom, chainRefusal, chainAnswer}
 use Rattle.chain.proofs.Rows.{row-of}
 
--- the way is none, or the logged value is cut
-abbrev pub strays : Link → List ℕ → Bool
-strays k bs = not (eqb (k .way) 2 || eqb (k .way) 3) || (eqb (k .way) 2 && nextCut bs)
-
 -- ---- a link up to its value, logged or escrowed
 
 module _ (log : List Logged) (found : ℕ → Handle → Option Escrowed) (k : Link) (bs : List ℕ) where
-  pub astray : strays k bs ≡ true → refuses 19 ≡ vouched log found k bs
+  pub astray : unreadable k bs ≡ true → refuses 19 ≡ vouched log found k bs
   unfolding vouched linkRefusal firstHolding settled
   astray e = rw e
 
-  module _ (stands : strays k bs ≡ false) where
-    pub nobody : k .identity ≡ 0 → refuses 9 ≡ vouched log found k bs
+  module _ (stands : unreadable k bs ≡ false) where
+    pub nobody : identityOf k ≡ 0 → refuses 9 ≡ vouched log found k bs
     unfolding vouched linkRefusal firstHolding settled
     nobody e = rw (stands, eq-eqb _ _ e)
 
-    pub unknown : (k .identity ≡ 0 → ⊥) → unvouched log found k bs ≡ true → refuses 18 ≡ vouched log found k bs
+    pub unknown : (identityOf k ≡ 0 → ⊥) → unvouched log found k bs ≡ true → refuses 18 ≡ vouched log found k bs
     unfolding vouched linkRefusal firstHolding settled
     unknown f e = rw (stands, ne-eqb _ _ f, e)
 
-    pub known : (k .identity ≡ 0 → ⊥) → unvouched log found k bs ≡ false
+    pub known : (identityOf k ≡ 0 → ⊥) → unvouched log found k bs ≡ false
         → gives (record { value = linkValue log found k bs; rest = bytesAfter k bs }) ≡ vouched log found k bs
     unfolding vouched linkRefusal firstHolding settled
     known f e = rw (stands, ne-eqb _ _ f, e)
@@ -187,12 +184,9 @@ module _ (b : BoxRecord) (logRows : List LogRow) (escrowRows : List EscrowRow) (
             few = omega arith;
           }
 
-  module _ (way identity number : ℕ) (bs : List ℕ) where
-    abbrev link : Link
-    link = record { way = way; identity = identity; number = number }
-
+  module _ (link : Link) (bs : List ℕ) where
     abbrev answer : Answer
-    answer = chainAnswer b logRows escrowRows logValues escrowValues way identity number bs
+    answer = chainAnswer b logRows escrowRows logValues escrowValues link bs
 
     pub none-runs : b .running ≡ 16 → refusedWith 4 ≡ answer
     unfolding chainAnswer chainRefusal firstHolding answered
@@ -216,7 +210,5 @@ module _ (b : BoxRecord) (logRows : List LogRow) (escrowRows : List EscrowRow) (
         escrowed
         ∙ one-runs f
 
-    pub no-way : (b .running ≡ 16 → ⊥) → (way ≡ 2 → ⊥) → (way ≡ 3 → ⊥) → refusedWith 19 ≡ answer
-    no-way r f g =
-        let stray = astray _ _ link bs (rw (ne-eqb _ _ f, ne-eqb _ _ g)) in
-        refusal _ _ link bs (eqb-false 16 0 refl) (omega arith) stray ∙ one-runs r
+    pub no-way : (b .running ≡ 16 → ⊥) → unreadable link bs ≡ true → refusedWith 19 ≡ answer
+    no-way r e = refusal _ _ link bs (eqb-false 16 0 refl) (omega arith) (astray _ _ link bs e) ∙ one-runs r

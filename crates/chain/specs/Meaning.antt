@@ -2,22 +2,14 @@
 use Prim.Native.Nat.{ℕ, _-_, _≤_}
 use mathlib.Core.List.{List}
 use lib.ListN.{length, drop}
-use Rattle.fnv.specs.declared.Tag.{Tag}
-use Rattle.record.specs.declared.Handle.{Handle}
+use Rattle.record.specs.Call.{loggedLink, escrowedLink}
 use Rattle.record.specs.Layout.{OrRefusal, gives, refuses}
 use Rattle.ideal.specs.State.{part}
-use Rattle.ideal.specs.Step.{Link, Head, malformed, ends, leads}
+use Rattle.ideal.specs.Step.{Head, malformed, ends, leads}
 use Rattle.chain.specs.declared.Head as code
 use Rattle.chain.specs.declared.Head.the-variants.{Malformed, End, Logged, Escrowed}
 use Rattle.chain.specs.declared.Value.{Value}
 use Rattle.chain.specs.declared.Value.the-variants.{At, Refused}
-
--- a link by its tag, and one by its handle
-abbrev pub loggedLink : ℕ → Tag → Link
-loggedLink i g = record { way = 2; identity = i; number = g .0 }
-
-abbrev pub escrowedLink : ℕ → Handle → Link
-escrowedLink i h = record { way = 3; identity = i; number = h .0 }
 
 unfoldable pub headIn : code.Head → Head
 headIn Malformed = malformed

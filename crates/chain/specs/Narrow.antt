@@ -1,17 +1,18 @@
 -- What following a chain answers, on the parts of the box that it is given.
 use Prim.Native.Nat.{ℕ, _+_, _-_, _≤_}
-use mathlib.Core.Bool.{not, _&&_, _||_, cond}
+use mathlib.Core.Bool.{cond}
 use mathlib.Core.List.{List}
 use mathlib.Core.Option.{Option}
 use lib.ListN.{length, drop}
 use lib.Dec.{eqb}
 use Rattle.record.specs.declared.Handle.{Handle}
+use Rattle.record.specs.Call.{Link, identityOf}
 use Rattle.record.specs.Layout.{OrRefusal, gives, refuses}
 use Rattle.ideal.specs.declared.BoxRecord.{BoxRecord}
 use Rattle.ideal.specs.declared.LogRow.{LogRow}
 use Rattle.ideal.specs.declared.EscrowRow.{EscrowRow}
 use Rattle.ideal.specs.State.{Logged, Escrowed}
-use Rattle.ideal.specs.Step.{Link, nextCount, nextCut, nextValue, bytesAfter, linkValue, unvouched, accept, _then_, firstHolding, follow, linksFrom}
+use Rattle.ideal.specs.Step.{nextCount, nextCut, nextValue, unreadable, bytesAfter, linkValue, unvouched, accept, _then_, firstHolding, follow, linksFrom}
 use Rattle.state.specs.declared.Answer.{Answer}
 use Rattle.state.specs.Answers.{settled, answered}
 use Rattle.state.specs.Parts.{logOf}
@@ -28,8 +29,7 @@ module _ (log : List Logged) (found : ℕ → Handle → Option Escrowed) where
   unfoldable pub linkRefusal : Link → List ℕ → ℕ
   linkRefusal k bs =
       firstHolding
-      ((19, not (eqb (k .way) 2 || eqb (k .way) 3) || (eqb (k .way) 2 && nextCut bs)) then (9, eqb (k .identity) 0)
-      then (18, unvouched log found k bs) then accept)
+      ((19, unreadable k bs) then (9, eqb (identityOf k) 0) then (18, unvouched log found k bs) then accept)
 
   unfoldable pub vouched : Link → List ℕ → OrRefusal ValueAndRest
   vouched k bs =
@@ -46,9 +46,8 @@ module _ (b : BoxRecord) (logRows : List LogRow) (escrowRows : List EscrowRow) (
       firstHolding
       ((4, eqb (b .running) 16) then follow (logOf b logRows logValues) (foundOn b escrowRows escrowValues) 16 k bs)
 
-  unfoldable pub chainAnswer : (way identity number : ℕ) → List ℕ → Answer
-  chainAnswer way identity number bs =
-      let k : Link = record { way = way; identity = identity; number = number } in
+  unfoldable pub chainAnswer : Link → List ℕ → Answer
+  chainAnswer k bs =
       answered (chainRefusal k bs) (linksFrom (logOf b logRows logValues) (foundOn b escrowRows escrowValues) 16 k bs)
 
 -- what a link's function is given: columns of n rows of the log and of m rows of the escrow, whose values lie within these

@@ -13,9 +13,10 @@ use ideal::EscrowRow;
 use ideal::LogRow;
 use record::Handle;
 
+// The greater of the two.
 fn most(a: usize, b: usize) -> usize
     requires { ⌜ (a ≤ 64) × (b ≤ 64) ⌝ }
-    ensures { λ r. ⌜ (a ≤ r) × (b ≤ r) × (r ≤ 64) ⌝ }
+    ensures { λ r. ⌜ (a ≤ r) × (b ≤ r) × (r ≤ 64) × (a < b → r ≡ b) × (b ≤ a → r ≡ a) ⌝ }
 {
     if a < b {
         return b;

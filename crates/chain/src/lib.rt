@@ -8,21 +8,24 @@ ghost use mathlib.Core.List.{List};
 ghost use mathlib.Core.Option.{Option};
 ghost use lib.Dec.{eqb};
 ghost use lib.ListN.{length, drop};
-ghost use Rattle.record.specs.Meaning.{wayIn, numberIn, ByItsWay};
+ghost use Rattle.record.specs.Call.{loggedLink, escrowedLink};
+ghost use Rattle.record.specs.Meaning.{linkIn};
 ghost use Rattle.ideal.specs.State.{Logged, Escrowed};
 ghost use Rattle.ideal.specs.Step.{headOf, accept, _then_, firstHolding};
 ghost use Rattle.ideal.specs.Tables.{logTable, escrowTable};
 ghost use Rattle.state.specs.Answers.{answered};
 ghost use Rattle.state.specs.Parts.{TableFits};
-ghost use Rattle.chain.specs.Meaning.{loggedLink, escrowedLink, headIn, inChain, inEscrow, ValueWithin};
+ghost use Rattle.chain.specs.Meaning.{headIn, inChain, inEscrow, ValueWithin};
 ghost use Rattle.chain.specs.Columns.{logIn, foundIn, LoggedWithin, EscrowedWithin};
 ghost use Rattle.chain.specs.Narrow.{nextOf, vouched, LinkFits, chainFrom, chainAnswer};
+use buffers::Counted;
+use buffers::counted_at;
+use buffers::number_at;
 use columns::columns_of;
 use columns::escrowed_at;
 use columns::logged_in;
 use fnv::Tag;
 use ideal::BoxRecord;
-use reader::number_at;
 use record::First;
 use record::Handle;
 use state::Answer;
@@ -74,15 +77,9 @@ fn next_value(chain: &[u8], at: usize) -> Value
     ensures { λ r. ⌜ inChain (now (chain .entry)) r ≡ nextOf (drop at (now (chain .entry))) ⌝ }
     ensures { λ r. ⌜ ValueWithin (now (chain .entry)) r ⌝ }
 {
-    if chain.len() - at < 2 {
+    let Counted::At(start, end) = counted_at(chain, at) else {
         return Value::Refused(19);
-    }
-    let start = at + 2;
-    let count = number_at(chain, at, 2) as usize;
-    if chain.len() - start < count {
-        return Value::Refused(19);
-    }
-    let end = start + count;
+    };
     Value::At(start, end)
 }
 
@@ -277,8 +274,7 @@ pub fn follow_chain(
     bytes: &[u8],
 ) -> Answer
     requires { ⌜ (held .running ≤ 16) × TableFits logTable (held .log) (log .rows) (now «log_values») × TableFits escrowTable (held .escrow) (escrow .rows) (now «escrow_values») ⌝ }
-    requires { ⌜ ByItsWay first ⌝ }
-    ensures { λ r. ⌜ r ≡ chainAnswer held (log .rows) (escrow .rows) (now («log_values» .entry)) (now («escrow_values» .entry)) (wayIn first) identity (numberIn first) (now (bytes .entry)) ⌝ }
+    ensures { λ r. ⌜ r ≡ chainAnswer held (log .rows) (escrow .rows) (now («log_values» .entry)) (now («escrow_values» .entry)) (linkIn identity first) (now (bytes .entry)) ⌝ }
 {
     if held.running == 16 {
         return refused(4);

@@ -1,7 +1,7 @@
 -- What the desk's answers say (specs/Accuracy.antt), by what is stated of the box's checks.
 --     signed-is-twos-complement
 --     desk-on-any
---     desk-is-accurate
+--     desk-is-accurate, desk-is-accurate-in-both
 -- Assumes nothing.
 use mathlib.Core.Path.{_≡_, refl, sym, _∙_, ap}
 use mathlib.Core.Bool.{Bool, true, false, cond, _&&_, false≢true}
@@ -14,7 +14,7 @@ use lib.ListN.{length, getD}
 use lib.Seq.{take-append-seam, take-append-le}
 use lib.Dec.{T, eqb, ltb}
 use lib.IntN.{ℤ, pos, negsuc, _+ℤ_, _-ℤ_}
-use lib.Signed.{ltZ, leZ, _≤ℤ_, _<ℤ_}
+use lib.Signed.{ltZ, leZ, _<ℤ_}
 use borrow.Author.Tests.{eq-eqb, eqb-true, eqb-false, lt-ltb, ltb-true, ltb-false, le-leb, leb-true, ne-eqb}
 use Rattle.lists.proofs.Bools.{by-cases, and-left, and-right, and-true}
 use Rattle.fnv.specs.declared.Tag.{Tag}
@@ -25,9 +25,11 @@ use Rattle.ideal.specs.Step.{Answer}
 use Rattle.ideal.specs.Tables.{Tables, usedLog}
 use Rattle.ideal.specs.Soundness.{sizesRight, sound}
 use Rattle.ideal.specs.Box.{Element, given, Result, callOn, elementAt, tablesAfter, tablesBefore, answerAt}
-use Rattle.ideal.specs.Accuracy.{Earlier, LogsAt, CheckAt}
+use Rattle.ideal.specs.Accuracy.{Earlier, LogsAt, CheckAt, CheckIsAccurate}
 use Rattle.ideal.specs.Refusals.{callerIn, ownBytes, isLogRow}
+use Rattle.ideal.specs.BothProfiles.{bothOn}
 use Rattle.ideal.proofs.Demanded.{demands}
+use Rattle.ideal.proofs.ProfilesDemanded.{both-demands, profiles-are}
 use Rattle.desk.specs.declared.Tank.{Tank}
 use Rattle.desk.specs.declared.Claim.{Claim}
 use Rattle.desk.specs.declared.Checked.{Checked}
@@ -171,8 +173,8 @@ abbrev amount : Claim → ℤ
 amount g = signed (g .low) (g .high)
 
 -- that probe earlier logged those bytes and got that tag
-abbrev WasLogged : List Element → Claim → Type 0
-WasLogged es g = Earlier (LogsAt callOn es (g .probe) (g .low ∷ g .high ∷ []) (g .tag)) (length es)
+abbrev WasLogged : (Tables → Element → Result) → List Element → Claim → Type 0
+WasLogged box es g = Earlier (LogsAt box es (g .probe) (g .low ∷ g .high ∷ []) (g .tag)) (length es)
 
 -- a decision is no refusal
 decided-code : (d : ℤ) → decided d .code ≡ 0
@@ -355,25 +357,6 @@ desk-on-any t size k =
 
 -- ---- after a list of calls
 
--- what an index of a list says depends on the calls up to it
-module _ (es fs : List Element) (j : ℕ) (q : elementAt es j ≡ elementAt fs j) (b : tablesBefore callOn es j ≡ tablesBefore callOn fs j) where
-  same : answerAt callOn es j ≡ answerAt callOn fs j
-  unfolding answerAt
-  same i = callOn (b i) (q i) .answer
-
-  moved : (i : ℕ) (v : List ℕ) (tag : Tag) → LogsAt callOn es i v tag j → LogsAt callOn fs i v tag j
-  moved i v tag l =
-      record {
-        offset = l .offset;
-        size = l .size;
-        used = l .used;
-        reads = ap (λ (e : Element). read (e .bytes)) (sym q) ∙ l .reads;
-        accepts = ap (λ (x : Answer). x .code) (sym same) ∙ l .accepts;
-        by = ap callerIn (sym b) ∙ l .by;
-        bytes = ap (λ (u : Tables). ownBytes u (l .offset) (l .size)) (sym b) ∙ l .bytes;
-        gets = ap (λ (x : Answer). x .number) (sym same) ∙ l .gets;
-      }
-
 getD-front : (es : List Element) (e d : Element) (j : ℕ) → j < length es → getD (es ++ (e ∷ [])) j d ≡ getD es j d
 getD-front [] e d j l = absurd (omega (arith, l))
 getD-front (x ∷ es) e d zero l = refl
@@ -383,164 +366,202 @@ getD-last : (es : List Element) (e d : Element) → getD (es ++ (e ∷ [])) (len
 getD-last [] e d = refl
 getD-last (x ∷ es) e d = getD-last es e d
 
-module _ (es : List Element) (e : Element) where
-  abbrev es′ : List Element
-  es′ = es ++ (e ∷ [])
+-- of a box whose checks are accurate and that answers the desk's as the full box does
+module _ (box : Tables → Element → Result) (accurate : CheckIsAccurate box)
+    (as-full : (t : Tables) (g : Claim) (size : ℕ) → box t (checkElement g size) ≡ callOn t (checkElement g size)) where
+  -- what an index of a list says depends on the calls up to it
+  module _ (es fs : List Element) (j : ℕ) (q : elementAt es j ≡ elementAt fs j) (b : tablesBefore box es j ≡ tablesBefore box fs j) where
+    same : answerAt box es j ≡ answerAt box fs j
+    unfolding answerAt
+    same i = box (b i) (q i) .answer
 
-  front : (j : ℕ) → j < length es → elementAt es j ≡ elementAt es′ j
-  unfolding elementAt
-  front j l = sym (getD-front es e _ j l)
+    moved : (i : ℕ) (v : List ℕ) (tag : Tag) → LogsAt box es i v tag j → LogsAt box fs i v tag j
+    moved i v tag l =
+        record {
+          offset = l .offset;
+          size = l .size;
+          used = l .used;
+          reads = ap (λ (e : Element). read (e .bytes)) (sym q) ∙ l .reads;
+          accepts = ap (λ (x : Answer). x .code) (sym same) ∙ l .accepts;
+          by = ap callerIn (sym b) ∙ l .by;
+          bytes = ap (λ (u : Tables). ownBytes u (l .offset) (l .size)) (sym b) ∙ l .bytes;
+          gets = ap (λ (x : Answer). x .number) (sym same) ∙ l .gets;
+        }
 
-  before : (j : ℕ) → j < length es → tablesBefore callOn es j ≡ tablesBefore callOn es′ j
-  unfolding tablesBefore
-  before j l = ap (tablesAfter callOn) (sym (take-append-le j es (e ∷ []) (le-of-lt l)))
+  module _ (es : List Element) (e : Element) where
+    abbrev es′ : List Element
+    es′ = es ++ (e ∷ [])
 
-  -- the call after the list
-  last : answerAt callOn es′ (length es) ≡ callOn (tablesAfter callOn es) e .answer
-  unfolding answerAt tablesBefore elementAt
-  last i = callOn (tablesAfter callOn (take-append-seam es (e ∷ []) i)) (getD-last es e (given [] 0) i) .answer
+    front : (j : ℕ) → j < length es → elementAt es j ≡ elementAt es′ j
+    unfolding elementAt
+    front j l = sym (getD-front es e _ j l)
 
-  module _ (i : ℕ) (v : List ℕ) (tag : Tag) where
-    further : Earlier (LogsAt callOn es i v tag) (length es) → Earlier (LogsAt callOn es′ i v tag) (length es)
-    further l =
-        record { index = l .index; before = l .before; there = moved es es′ (l .index) (front (l .index) (l .before)) (before (l .index) (l .before)) i v tag (l .there) }
+    before : (j : ℕ) → j < length es → tablesBefore box es j ≡ tablesBefore box es′ j
+    unfolding tablesBefore
+    before j l = ap (tablesAfter box) (sym (take-append-le j es (e ∷ []) (le-of-lt l)))
 
-    back : Earlier (LogsAt callOn es′ i v tag) (length es) → Earlier (LogsAt callOn es i v tag) (length es)
-    back l =
-        record { index = l .index; before = l .before; there = moved es′ es (l .index) (sym (front (l .index) (l .before))) (sym (before (l .index) (l .before))) i v tag (l .there) }
+    -- the call after the list
+    last : answerAt box es′ (length es) ≡ box (tablesAfter box es) e .answer
+    unfolding answerAt tablesBefore elementAt
+    last i = box (tablesAfter box (take-append-seam es (e ∷ []) i)) (getD-last es e (given [] 0) i) .answer
 
-module _ (es : List Element) (size : ℕ) (k : Tank) (g : Claim) (r : InRange k) (gives : Gives k g) where
-  abbrev e : Element
-  e = checkElement g size
+    module _ (i : ℕ) (v : List ℕ) (tag : Tag) where
+      further : Earlier (LogsAt box es i v tag) (length es) → Earlier (LogsAt box es′ i v tag) (length es)
+      further l =
+          record { index = l .index; before = l .before; there = moved es es′ (l .index) (front (l .index) (l .before)) (before (l .index) (l .before)) i v tag (l .there) }
 
-  abbrev v : List ℕ
-  v = g .low ∷ g .high ∷ []
+      back : Earlier (LogsAt box es′ i v tag) (length es) → Earlier (LogsAt box es i v tag) (length es)
+      back l =
+          record { index = l .index; before = l .before; there = moved es′ es (l .index) (sym (front (l .index) (l .before))) (sym (before (l .index) (l .before))) i v tag (l .there) }
 
-  abbrev t : Tables
-  t = tablesAfter callOn es
+  module _ (es : List Element) (size : ℕ) (k : Tank) (g : Claim) (r : InRange k) (gives : Gives k g) where
+    abbrev e : Element
+    e = checkElement g size
 
-  abbrev b : Answer
-  b = callOn t e .answer
+    abbrev v : List ℕ
+    v = g .low ∷ g .high ∷ []
 
-  abbrev desk : TankAnswer
-  desk = deskOn callOn t size k
+    abbrev t : Tables
+    t = tablesAfter box es
 
-  -- what is stated of the check that the desk makes, as the call after the list
-  record-is : read (elementAt (es′ es e) (length es) .bytes) ≡ whole (checkOf g) (length (write (checkOf g)))
-  unfolding elementAt checkElement
-  record-is = ap (λ (x : Element). read (x .bytes)) (getD-last es e _) ∙ reads g (gives .probe) (gives .tag)
+    abbrev b : Answer
+    b = callOn t e .answer
 
-  check-at : CheckAt callOn (es′ es e) (length es) (g .probe) (g .tag) v
-  unfolding checkOf
-  check-at = demands .two .history .checks (es′ es e) (length es) (g .probe) (g .tag) v (length (write (checkOf g))) record-is
+    abbrev desk : TankAnswer
+    desk = deskOn box t size k
 
-  says : (n : ℕ) → (b .code ≡ 0) × (b .number ≡ n) → (answerAt callOn (es′ es e) (length es) .code ≡ 0) × (answerAt callOn (es′ es e) (length es) .number ≡ n)
-  says n s = (ap (λ (x : Answer). x .code) (last es e) ∙ s .0, ap (λ (x : Answer). x .number) (last es e) ∙ s .1)
+    as-desk : desk ≡ deskOn callOn t size k
+    unfolding deskOn checkedOn
+    as-desk i = deskBy (λ c. record { code = as-full t c size i .answer .code; number = as-full t c size i .answer .number }) k
 
-  said : (n : ℕ) → (answerAt callOn (es′ es e) (length es) .code ≡ 0) × (answerAt callOn (es′ es e) (length es) .number ≡ n) → (b .code ≡ 0) × (b .number ≡ n)
-  said n s = (ap (λ (x : Answer). x .code) (sym (last es e)) ∙ s .0, ap (λ (x : Answer). x .number) (sym (last es e)) ∙ s .1)
+    answered : answerAt box (es′ es e) (length es) ≡ b
+    answered = last es e ∙ ap (λ (x : Result). x .answer) (as-full t g size)
 
-  sized : elementAt (es′ es e) (length es) .outputSize ≡ size
-  unfolding elementAt checkElement
-  sized = ap (λ (x : Element). x .outputSize) (getD-last es e _)
+    -- what is stated of the check that the desk makes, as the call after the list
+    record-is : read (elementAt (es′ es e) (length es) .bytes) ≡ whole (checkOf g) (length (write (checkOf g)))
+    unfolding elementAt checkElement
+    record-is = ap (λ (x : Element). read (x .bytes)) (getD-last es e _) ∙ reads g (gives .probe) (gives .tag)
 
-  -- yes and no, said of the list itself
-  yes-when : ((b .code ≡ 0) × (b .number ≡ 1)) ↔ ((size ≡ 1024) × WasLogged es g)
-  yes-when = (
-    λ s. let c = check-at .yes .0 (says 1 s) in (sym sized ∙ c .0, back es e (g .probe) v (g .tag) (c .1)),
-    λ s. said 1 (check-at .yes .1 (sized ∙ s .0, further es e (g .probe) v (g .tag) (s .1))),
-  )
+    check-at : CheckAt box (es′ es e) (length es) (g .probe) (g .tag) v
+    unfolding checkOf
+    check-at = accurate (es′ es e) (length es) (g .probe) (g .tag) v (length (write (checkOf g))) record-is
 
-  no-when : ((b .code ≡ 0) × (b .number ≡ 0)) ↔ ((size ≡ 1024) × (g .probe ≡ 0 → ⊥) × (WasLogged es g → ⊥))
-  no-when = (
-    λ s. let c = check-at .no .0 (says 0 s) in (sym sized ∙ c .0, c .1, λ l. c .2 (further es e (g .probe) v (g .tag) l)),
-    λ s. said 0 (check-at .no .1 (sized ∙ s .0, s .1, λ l. s .2 (back es e (g .probe) v (g .tag) l))),
-  )
+    says : (n : ℕ) → (b .code ≡ 0) × (b .number ≡ n) → (answerAt box (es′ es e) (length es) .code ≡ 0) × (answerAt box (es′ es e) (length es) .number ≡ n)
+    says n s = (ap (λ (x : Answer). x .code) answered ∙ s .0, ap (λ (x : Answer). x .number) answered ∙ s .1)
 
-  -- every answer is one of four
-  data Outcome : Type 0 where
-    yes-small : (b .code ≡ 0) × (b .number ≡ 1) → correctionInRange (amount g) ≡ true → desk ≡ decided (k .reading +ℤ amount g -ℤ k .setpoint) → Outcome
-    yes-large : (b .code ≡ 0) × (b .number ≡ 1) → correctionInRange (amount g) ≡ false → desk ≡ told 26 0 0 → Outcome
-    no-row : (b .code ≡ 0) × (b .number ≡ 0) → desk ≡ told 25 0 0 → Outcome
-    no-check : (m : ℕ) → eqb m 0 ≡ false → b .code ≡ m → desk ≡ told 25 0 m → Outcome
+    said : (n : ℕ) → (answerAt box (es′ es e) (length es) .code ≡ 0) × (answerAt box (es′ es e) (length es) .number ≡ n) → (b .code ≡ 0) × (b .number ≡ n)
+    said n s = (ap (λ (x : Answer). x .code) (sym answered) ∙ s .0, ap (λ (x : Answer). x .number) (sym answered) ∙ s .1)
 
-  after-yes : (b .code ≡ 0) × (b .number ≡ 1) → Outcome
-  after-yes s =
-      let d = said-yes t size k g r gives (s .0) (s .1) in
-      by-cases (correctionInRange (amount g)) (λ y. yes-small s y (d ∙ corrected-small (k .reading) (k .setpoint) (amount g) y))
-      (λ y. yes-large s y (d ∙ corrected-code (k .reading) (k .setpoint) (amount g) y))
+    sized : elementAt (es′ es e) (length es) .outputSize ≡ size
+    unfolding elementAt checkElement
+    sized = ap (λ (x : Element). x .outputSize) (getD-last es e _)
 
-  after-no : (b .code ≡ 0) × (b .number ≡ 0) → Outcome
-  after-no s = no-row s (said-no t size k g r gives (s .0) (ap (λ (n : ℕ). eqb n 1) (s .1)))
+    -- yes and no, said of the list itself
+    yes-when : ((b .code ≡ 0) × (b .number ≡ 1)) ↔ ((size ≡ 1024) × WasLogged box es g)
+    yes-when = (
+      λ s. let c = check-at .yes .0 (says 1 s) in (sym sized ∙ c .0, back es e (g .probe) v (g .tag) (c .1)),
+      λ s. said 1 (check-at .yes .1 (sized ∙ s .0, further es e (g .probe) v (g .tag) (s .1))),
+    )
 
-  accepted : b .code ≡ 0 → (b .number ≡ 1) ⊎ (b .number ≡ 0) → Outcome
-  accepted z (inl n) = after-yes (z, n)
-  accepted z (inr n) = after-no (z, n)
+    no-when : ((b .code ≡ 0) × (b .number ≡ 0)) ↔ ((size ≡ 1024) × (g .probe ≡ 0 → ⊥) × (WasLogged box es g → ⊥))
+    no-when = (
+      λ s. let c = check-at .no .0 (says 0 s) in (sym sized ∙ c .0, c .1, λ l. c .2 (further es e (g .probe) v (g .tag) l)),
+      λ s. said 0 (check-at .no .1 (sized ∙ s .0, s .1, λ l. s .2 (back es e (g .probe) v (g .tag) l))),
+    )
 
-  outcome : Outcome
-  outcome =
-      by-cases (eqb (b .code) 0)
-      (λ y. let z = eqb-true (b .code) 0 y in accepted z (one-or-none t size g (gives .probe) (gives .tag) z))
-      (λ y. no-check (b .code) y refl (refused t size k g r gives (b .code) y refl))
+    -- every answer is one of four
+    data Outcome : Type 0 where
+      yes-small : (b .code ≡ 0) × (b .number ≡ 1) → correctionInRange (amount g) ≡ true → desk ≡ decided (k .reading +ℤ amount g -ℤ k .setpoint) → Outcome
+      yes-large : (b .code ≡ 0) × (b .number ≡ 1) → correctionInRange (amount g) ≡ false → desk ≡ told 26 0 0 → Outcome
+      no-row : (b .code ≡ 0) × (b .number ≡ 0) → desk ≡ told 25 0 0 → Outcome
+      no-check : (m : ℕ) → eqb m 0 ≡ false → b .code ≡ m → desk ≡ told 25 0 m → Outcome
 
-  abbrev codeOf : TankAnswer → ℕ
-  codeOf x = x .code
+    after-yes : (b .code ≡ 0) × (b .number ≡ 1) → Outcome
+    after-yes s =
+        let d = as-desk ∙ said-yes t size k g r gives (s .0) (s .1) in
+        by-cases (correctionInRange (amount g)) (λ y. yes-small s y (d ∙ corrected-small (k .reading) (k .setpoint) (amount g) y))
+        (λ y. yes-large s y (d ∙ corrected-code (k .reading) (k .setpoint) (amount g) y))
 
-  -- an answer has one code
-  one-code : {P : Type 0} (m n : ℕ) → eqb m n ≡ false → desk .code ≡ m → desk .code ≡ n → P
-  one-code m n z p q = apart m n z (sym p ∙ q)
+    after-no : (b .code ≡ 0) × (b .number ≡ 0) → Outcome
+    after-no s = no-row s (as-desk ∙ said-no t size k g r gives (s .0) (ap (λ (n : ℕ). eqb n 1) (s .1)))
 
-  decides-when : Outcome → desk .code ≡ 0 → (size ≡ 1024) × WasLogged es g × (correctionInRange (amount g) ≡ true)
-  unfolding told
-  decides-when (yes-small s y d) z = let w = yes-when .0 s in (w .0, w .1, y)
-  decides-when (yes-large s y d) z = one-code 26 0 refl (ap codeOf d) z
-  decides-when (no-row s d) z = one-code 25 0 refl (ap codeOf d) z
-  decides-when (no-check m n c d) z = one-code 25 0 refl (ap codeOf d) z
+    accepted : b .code ≡ 0 → (b .number ≡ 1) ⊎ (b .number ≡ 0) → Outcome
+    accepted z (inl n) = after-yes (z, n)
+    accepted z (inr n) = after-no (z, n)
 
-  decision-is : Outcome → desk .code ≡ 0 → desk ≡ decided (k .reading +ℤ amount g -ℤ k .setpoint)
-  unfolding told
-  decision-is (yes-small s y d) z = d
-  decision-is (yes-large s y d) z = one-code 26 0 refl (ap codeOf d) z
-  decision-is (no-row s d) z = one-code 25 0 refl (ap codeOf d) z
-  decision-is (no-check m n c d) z = one-code 25 0 refl (ap codeOf d) z
+    outcome : Outcome
+    outcome =
+        by-cases (eqb (b .code) 0)
+        (λ y. let z = eqb-true (b .code) 0 y in accepted z (one-or-none t size g (gives .probe) (gives .tag) z))
+        (λ y. no-check (b .code) y refl (as-desk ∙ refused t size k g r gives (b .code) y refl))
 
-  large-when : Outcome → desk ≡ told 26 0 0 → (size ≡ 1024) × WasLogged es g × (correctionInRange (amount g) ≡ false)
-  unfolding told
-  large-when (yes-small s y d) z = one-code 0 26 refl (ap codeOf d ∙ decided-code (k .reading +ℤ amount g -ℤ k .setpoint)) (ap codeOf z)
-  large-when (yes-large s y d) z = let w = yes-when .0 s in (w .0, w .1, y)
-  large-when (no-row s d) z = one-code 25 26 refl (ap codeOf d) (ap codeOf z)
-  large-when (no-check m n c d) z = one-code 25 26 refl (ap codeOf d) (ap codeOf z)
+    abbrev codeOf : TankAnswer → ℕ
+    codeOf x = x .code
 
-  not-logged-when : Outcome → desk ≡ told 25 0 0 → (size ≡ 1024) × (g .probe ≡ 0 → ⊥) × (WasLogged es g → ⊥)
-  unfolding told
-  not-logged-when (yes-small s y d) z = one-code 0 25 refl (ap codeOf d ∙ decided-code (k .reading +ℤ amount g -ℤ k .setpoint)) (ap codeOf z)
-  not-logged-when (yes-large s y d) z = one-code 26 25 refl (ap codeOf d) (ap codeOf z)
-  not-logged-when (no-row s d) z = no-when .0 s
-  not-logged-when (no-check m n c d) z = apart m 0 n (ap (λ (x : TankAnswer). x .refusal) (sym d ∙ z))
+    -- an answer has one code
+    one-code : {P : Type 0} (m n : ℕ) → eqb m n ≡ false → desk .code ≡ m → desk .code ≡ n → P
+    one-code m n z p q = apart m n z (sym p ∙ q)
 
-  -- and the other way
-  with-correction : (size ≡ 1024) × WasLogged es g → desk ≡ corrected (k .reading) (k .setpoint) (amount g)
-  with-correction w = let s = yes-when .1 w in said-yes t size k g r gives (s .0) (s .1)
+    decides-when : Outcome → desk .code ≡ 0 → (size ≡ 1024) × WasLogged box es g × (correctionInRange (amount g) ≡ true)
+    unfolding told
+    decides-when (yes-small s y d) z = let w = yes-when .0 s in (w .0, w .1, y)
+    decides-when (yes-large s y d) z = one-code 26 0 refl (ap codeOf d) z
+    decides-when (no-row s d) z = one-code 25 0 refl (ap codeOf d) z
+    decides-when (no-check m n c d) z = one-code 25 0 refl (ap codeOf d) z
 
-  answers-no : (size ≡ 1024) × (g .probe ≡ 0 → ⊥) × (WasLogged es g → ⊥) → desk ≡ told 25 0 0
-  answers-no w = let s = no-when .1 w in said-no t size k g r gives (s .0) (ap (λ (n : ℕ). eqb n 1) (s .1))
+    decision-is : Outcome → desk .code ≡ 0 → desk ≡ decided (k .reading +ℤ amount g -ℤ k .setpoint)
+    unfolding told
+    decision-is (yes-small s y d) z = d
+    decision-is (yes-large s y d) z = one-code 26 0 refl (ap codeOf d) z
+    decision-is (no-row s d) z = one-code 25 0 refl (ap codeOf d) z
+    decision-is (no-check m n c d) z = one-code 25 0 refl (ap codeOf d) z
+
+    large-when : Outcome → desk ≡ told 26 0 0 → (size ≡ 1024) × WasLogged box es g × (correctionInRange (amount g) ≡ false)
+    unfolding told
+    large-when (yes-small s y d) z = one-code 0 26 refl (ap codeOf d ∙ decided-code (k .reading +ℤ amount g -ℤ k .setpoint)) (ap codeOf z)
+    large-when (yes-large s y d) z = let w = yes-when .0 s in (w .0, w .1, y)
+    large-when (no-row s d) z = one-code 25 26 refl (ap codeOf d) (ap codeOf z)
+    large-when (no-check m n c d) z = one-code 25 26 refl (ap codeOf d) (ap codeOf z)
+
+    not-logged-when : Outcome → desk ≡ told 25 0 0 → (size ≡ 1024) × (g .probe ≡ 0 → ⊥) × (WasLogged box es g → ⊥)
+    unfolding told
+    not-logged-when (yes-small s y d) z = one-code 0 25 refl (ap codeOf d ∙ decided-code (k .reading +ℤ amount g -ℤ k .setpoint)) (ap codeOf z)
+    not-logged-when (yes-large s y d) z = one-code 26 25 refl (ap codeOf d) (ap codeOf z)
+    not-logged-when (no-row s d) z = no-when .0 s
+    not-logged-when (no-check m n c d) z = apart m 0 n (ap (λ (x : TankAnswer). x .refusal) (sym d ∙ z))
+
+    -- and the other way
+    with-correction : (size ≡ 1024) × WasLogged box es g → desk ≡ corrected (k .reading) (k .setpoint) (amount g)
+    with-correction w = let s = yes-when .1 w in as-desk ∙ said-yes t size k g r gives (s .0) (s .1)
+
+    answers-no : (size ≡ 1024) × (g .probe ≡ 0 → ⊥) × (WasLogged box es g → ⊥) → desk ≡ told 25 0 0
+    answers-no w = let s = no-when .1 w in as-desk ∙ said-no t size k g r gives (s .0) (ap (λ (n : ℕ). eqb n 1) (s .1))
+
+  accurate-desk : DeskIsAccurate box
+  unfolding correctionInRange
+  accurate-desk es size k range given =
+      let g = claimOf k in
+      let gives = claims k given in
+      let r = range-is k range in
+      let o = outcome es size k g r gives in
+      record {
+        decides = (
+          λ z. let w = decides-when es size k g r gives o z in (w .0, w .1, is-within _ _ _ (w .2)),
+          λ w. counted k _ (with-correction es size k g r gives (w .0, w .1)) (w .2) .code,
+        );
+        decision = λ z. decides k (S.amount k) (decision-is es size k g r gives o z);
+        correction-out-of-range = (
+          λ z. let w = large-when es size k g r gives o z in (w .0, w .1, not-within _ _ _ (w .2)),
+          λ w. too-large k _ (with-correction es size k g r gives (w .0, w .1)) (w .2),
+        );
+        not-logged = (not-logged-when es size k g r gives o, answers-no es size k g r gives);
+      }
 
 pub desk-is-accurate : DeskIsAccurate callOn
-unfolding correctionInRange
-desk-is-accurate es size k range given =
-    let g = claimOf k in
-    let gives = claims k given in
-    let r = range-is k range in
-    let o = outcome es size k g r gives in
-    record {
-      decides = (
-        λ z. let w = decides-when es size k g r gives o z in (w .0, w .1, is-within _ _ _ (w .2)),
-        λ w. counted k _ (with-correction es size k g r gives (w .0, w .1)) (w .2) .code,
-      );
-      decision = λ z. decides k (S.amount k) (decision-is es size k g r gives o z);
-      correction-out-of-range = (
-        λ z. let w = large-when es size k g r gives o z in (w .0, w .1, not-within _ _ _ (w .2)),
-        λ w. too-large k _ (with-correction es size k g r gives (w .0, w .1)) (w .2),
-      );
-      not-logged = (not-logged-when es size k g r gives o, answers-no es size k g r gives);
-    }
+desk-is-accurate = accurate-desk callOn (demands .two .history .checks) (λ t g size. refl)
+
+-- after calls of either profile; the desk's own checks are of the full one
+pub desk-is-accurate-in-both : DeskIsAccurate bothOn
+unfolding checkElement
+desk-is-accurate-in-both =
+    accurate-desk bothOn (both-demands .two .checks) (λ t g size. ap (λ box. box t (checkElement g size)) (profiles-are .full))

@@ -12,6 +12,7 @@ use lib.Dec.{eqb}
 use borrow.Author.Tests.{eq-eqb, ne-eqb}
 use Rattle.lists.proofs.Bools.{by-cases}
 use Rattle.fnv.specs.Fnv.{little}
+use Rattle.record.specs.Call.{firstIn}
 use Rattle.record.specs.Layout.{stands, kinds, among, kindOf, mapIn, mapOf}
 use Rattle.record.specs.Read.{fromLittle}
 use Rattle.record.specs.Write.{only, recordOf, filled, recordIn, write}
@@ -20,7 +21,7 @@ use Rattle.ideal.specs.Soundness.{sizesRight, sound}
 use Rattle.ideal.specs.Step.{Answer}
 use Rattle.ideal.specs.Box.{callOn}
 use Rattle.ideal.specs.State.{any}
-use Rattle.ideal.specs.Refusals.{First, here, later, none-holds, conditions, conditionsBy, onCallBy, callConditions, readerConditions, isMap, width, ends, cutField, oneOf, isLogRow}
+use Rattle.ideal.specs.Refusals.{First, here, later, none-holds, conditions, conditionsBy, onCallBy, ofChain, callConditions, readerConditions, isMap, width, ends, cutField, oneOf, isLogRow}
 use Rattle.ideal.specs.OneCall.{countedNumber}
 use Rattle.ideal.proofs.Demanded.{demands}
 use Rattle.desk.specs.declared.Claim.{Claim}
@@ -48,7 +49,7 @@ module _ (t : Tables) (size : ℕ) (g : Claim) (p : g .probe < 2 ^ 64) (x : g .t
       (4, false) ∷ (6, false) ∷ (7, false) ∷ (8, false) ∷ (9, eqb (g .probe) 0) ∷ (10, false) ∷ (11, false) ∷ (12, false) ∷ (13, false) ∷ (14, false) ∷ []
 
   call-rows : callConditions t (checkOf g) ≡ uncalled
-  unfolding callConditions oneOf any filled checkOf
+  unfolding callConditions ofChain firstIn oneOf any filled checkOf
   call-rows = refl
 
   rows : conditions t (checkElement g size) ≡ (15, not ready) ∷ (unread ++ uncalled)

@@ -9,14 +9,13 @@ use borrow.Author.Tests.{eqb-true, eqb-false}
 use Rattle.lists.proofs.Bools.{by-cases}
 use Rattle.record.specs.Write.{write}
 use Rattle.ideal.specs.declared.BoxRecord.{BoxRecord}
-use Rattle.ideal.specs.Tables.{Tables}
+use Rattle.ideal.specs.Tables.{Tables, lentTables}
 use Rattle.ideal.specs.Box.{Result, callOn, outputAfter}
 use Rattle.ideal.specs.OneCall.{leaves, shows}
 use Rattle.ideal.proofs.Demanded.{demands}
 use Rattle.state.specs.declared.LogTable.{LogTable}
 use Rattle.state.specs.declared.EscrowTable.{EscrowTable}
 use Rattle.state.specs.declared.Change.{Change}
-use Rattle.soundness.specs.Parts.{tablesOf}
 use Rattle.calls.specs.Entry.{EntryResult, resultOf, resultOn, entryOn}
 use Rattle.desk.specs.declared.Claim.{Claim}
 use Rattle.desk.specs.Desk.{checkOf, checkElement, checkedOn}
@@ -51,11 +50,11 @@ module _ (t : Tables) (g : Claim) (size : ℕ) (p : g .probe < 2 ^ 64) (x : g .t
 -- what the entry by value answers and leaves to a check
 module _ (held : BoxRecord) (log : LogTable) (escrow : EscrowTable) (heaps shared logValues escrowValues output : List ℕ) (g : Claim) (p : g .probe < 2 ^ 64) (x : g .tag .0 < 2 ^ 64) where
   abbrev t : Tables
-  t = tablesOf held log escrow heaps shared logValues escrowValues
+  t = lentTables held (log .rows) (escrow .rows) heaps shared logValues escrowValues
 
   pub checked : (r : Change) (heaps′ shared′ logValues′ escrowValues′ output′ bytes : List ℕ) → bytes ≡ write (checkOf g)
       → resultOf log escrow r heaps′ shared′ logValues′ escrowValues′ output′ ≡ entryOn callOn t bytes output
-      → checkResult (record { code = r .answer .code; number = r .answer .number }) (tablesOf held log escrow heaps′ shared′ logValues′ escrowValues′) output′
+      → checkResult (record { code = r .answer .code; number = r .answer .number }) (lentTables held (log .rows) (escrow .rows) heaps′ shared′ logValues′ escrowValues′) output′
       ≡ checkLeaves callOn t output g
   unfolding entryOn resultOn checkedOn checkElement
   checked r heaps′ shared′ logValues′ escrowValues′ output′ bytes b e =

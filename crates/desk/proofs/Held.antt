@@ -1,10 +1,6 @@
 -- The kinds of row that a host lends the desk, and of list that holds them by value.
 -- Assumes nothing.
-use mathlib.Core.Path.{_≡_, sym, _∙_}
-use lib.ListN.{length, length-map}
-use denote.Laws.{Is}
-use Rattle.rows.proofs.Kind.{Kind, R, vals}
-use Rattle.desk.specs.declared.Answers.{Answers}
+use Rattle.lending.proofs.Kind.{Kind}
 use Rattle.desk.proofs.Tank as T
 use Rattle.desk.proofs.Tank.Laws as T′
 use Rattle.desk.proofs.Tanks as Ts
@@ -25,7 +21,3 @@ answer = record { type = A.the-type; laws = A′.the-laws; facts = A′.the-plai
 
 abbrev pub answers : Kind
 answers = record { type = As.the-type; laws = As′.the-laws; facts = As′.the-plain; copies = As′.the-copy; small = tt }
-
--- there are eight answers: the type says so, by what a list owns
-pub answers-long : (d : Answers) → Is (R answers) d (vals answers d) → length (d .rows) ≡ 8
-answers-long d p = sym (length-map (d .rows) (A.the-field .into)) ∙ p .1 .1 .0 .1 .0 .1

@@ -9,6 +9,7 @@ use mathlib.Core.List.{List, _++_, map}
 use lib.ListN.{length, getD, set, take, drop}
 use Rattle.ideal.specs.Tables.{Tables}
 use Rattle.ideal.specs.Box.{Element, Result}
+use Rattle.ideal.specs.Layouts.{Sound}
 use Rattle.desk.specs.declared.Tank.{Tank}
 use Rattle.desk.specs.declared.TankAnswer.{TankAnswer}
 use Rattle.desk.specs.Desk.{deskOn}
@@ -29,6 +30,10 @@ module _ (box : Tables → Element → Result) (t : Tables) (output : List ℕ) 
 
   abbrev pub Upto : ℕ → Left (List TankAnswer)
   Upto i = stands (take i (map answerFor ks) ++ drop i noAnswers) t output
+
+  -- the box is still sound
+  pub still : (i : ℕ) (rows : List TankAnswer) (u : Tables) (out : List ℕ) → stands rows u out ≡ Upto i → Sound t (length output) → Sound u (length out)
+  still i rows u out e s = rw (ap (λ (x : Left (List TankAnswer)). x .tables) e, ap (λ (x : Left (List TankAnswer)). x .output) e) s
 
   module _ (i : ℕ) (rows : List TankAnswer) (u : Tables) (out : List ℕ) (nk : length ks ≡ 8) (e : stands rows u out ≡ Upto i) where
     abbrev rows-are : rows ≡ take i (map answerFor ks) ++ drop i noAnswers

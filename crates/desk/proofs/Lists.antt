@@ -10,12 +10,10 @@ use Rattle.lists.proofs.Bools.{by-cases, and-left, and-right}
 use Rattle.ideal.specs.declared.BoxRecord.{BoxRecord}
 use Rattle.ideal.specs.declared.LogRow.{LogRow}
 use Rattle.ideal.specs.declared.EscrowRow.{EscrowRow}
-use Rattle.ideal.specs.Tables.{Tables}
+use Rattle.ideal.specs.Tables.{Tables, lentTables}
 use Rattle.ideal.specs.Box.{callOn}
 use Rattle.state.specs.declared.LogTable.{LogTable}
 use Rattle.state.specs.declared.EscrowTable.{EscrowTable}
-use Rattle.soundness.specs.Parts.{tablesOf}
-use Rattle.caif.specs.Lent.{lentTables}
 use Rattle.desk.specs.declared.Tank.{Tank}
 use Rattle.desk.specs.declared.TankAnswer.{TankAnswer}
 use Rattle.desk.specs.declared.Tanks.{Tanks}
@@ -29,7 +27,7 @@ ListRight r t′ output′ t output ks = listResult r t′ output′ ≡ listLea
 
 -- copies of the lent rows are the lent rows
 pub lent-right : {b : BoxRecord} {heaps shared logValues escrowValues output heaps′ shared′ logValues′ escrowValues′ output′ : List ℕ} {r : Answers} {l : List LogRow} {e : List EscrowRow} (ks : Tanks) (lt : LogTable) (et : EscrowTable)
-    → lt .rows ≡ l → et .rows ≡ e → ListRight r (tablesOf b lt et heaps′ shared′ logValues′ escrowValues′) output′ (tablesOf b lt et heaps shared logValues escrowValues) output ks
+    → lt .rows ≡ l → et .rows ≡ e → ListRight r (lentTables b (lt .rows) (et .rows) heaps′ shared′ logValues′ escrowValues′) output′ (lentTables b (lt .rows) (et .rows) heaps shared logValues escrowValues) output ks
     → ListRight r (lentTables b l e heaps′ shared′ logValues′ escrowValues′) output′ (lentTables b l e heaps shared logValues escrowValues) output ks
 lent-right ks lt et el ee right = rw (← el, ← ee) right
 

@@ -13,7 +13,7 @@ use lib.Seq.{drop-length, take-suc}
 use Rattle.lists.specs.Lists.{any}
 use Rattle.lists.proofs.Bools.{or-false}
 use Rattle.lists.proofs.Lists.{any-append, any-one}
-use Rattle.desk.proofs.Written.{written, all-written}
+use Rattle.lending.proofs.Written.{written, all-written}
 
 module _ {A B : Type 0} (f : A → B) where
   pub getD-map : (ks : List A) (i : ℕ) (d : B) (e : A) → i < length ks → getD (map f ks) i d ≡ f (getD ks i e)

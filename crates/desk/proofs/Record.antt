@@ -8,10 +8,11 @@ use Prim.Native.Nat.{ℕ, _<_, _^_}
 use lib.ListN.{length}
 use lib.Dec.{lit<}
 use Rattle.fnv.specs.Fnv.{little}
+use Rattle.record.specs.Call.{firstIn}
 use Rattle.record.specs.Layout.{stands, kinds, among, kindOf}
 use Rattle.record.specs.Read.{whole, read}
 use Rattle.record.specs.Write.{only, recordOf, filled, recordIn, write, placed, writeKind, writeOn}
-use Rattle.record.specs.Statements.{ReadsBack}
+use Rattle.record.specs.Statements.{Fits, ByItsWay, ReadsBack}
 use Rattle.record.proofs.RoundTrip.{reads-back}
 use Rattle.desk.specs.declared.Claim.{Claim}
 use Rattle.desk.specs.Desk.{checkOf}
@@ -28,5 +29,11 @@ nil [] = refl
 nil (b ∷ bs) = ap (λ l. b ∷ l) (nil bs)
 
 pub reads : (g : Claim) → g .probe < 2 ^ 64 → g .tag .0 < 2 ^ 64 → read (write (checkOf g)) ≡ whole (checkOf g) (length (write (checkOf g)))
-unfolding ReadsBack filled checkOf
-reads g p t = ap read (sym (nil (write (checkOf g)))) ∙ reads-back (checkOf g) (record { place = lit< tt; identity = p; offset = lit< tt; size = lit< tt; number = t; count = lit< tt }) []
+unfolding ReadsBack ByItsWay firstIn filled checkOf
+reads g p t =
+    let fits : Fits (checkOf g) =
+    record {
+      fields = record { place = lit< tt; identity = p; offset = lit< tt; size = lit< tt; number = t; count = lit< tt };
+      way = tt;
+    } in
+    ap read (sym (nil (write (checkOf g)))) ∙ reads-back (checkOf g) fits []

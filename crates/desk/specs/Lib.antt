@@ -1,4 +1,3 @@
-pub mod Counted
 pub mod Decision
 pub mod Desk
 pub mod Results

@@ -1,14 +1,12 @@
 -- What the functions answer and leave: nothing of the box and no lent buffer is altered, but for a list's answers.
 use Prim.Native.Nat.{ℕ}
-use mathlib.Core.Bool.{Bool, not, _&&_, _||_, cond}
+use mathlib.Core.Bool.{Bool, not, _&&_, cond}
 use mathlib.Core.List.{List, [], _∷_, _++_, map}
 use lib.ListN.{length, drop}
 use lib.Dec.{eqb}
 use lib.IntN.{pos}
-use Rattle.lists.specs.Lists.{any}
 use Rattle.ideal.specs.Tables.{Tables}
 use Rattle.ideal.specs.Box.{Element, Result}
-use Rattle.desk.specs.Counted.{rowsLost}
 use Rattle.desk.specs.declared.Tank.{Tank}
 use Rattle.desk.specs.declared.TankAnswer.{TankAnswer}
 use Rattle.desk.specs.declared.Checked.{Checked}
@@ -46,11 +44,7 @@ unasked = record { code = 0; number = 0 }
 unfoldable pub needsBox : Tank → Bool
 needsBox k = not (eqb (k .given) 0) && (inRange (k .reading) && inRange (k .setpoint))
 
--- the box need not be asked about any tank of a list, or it refuses every check, since lent rows are not 64
-unfoldable pub isUnasked : List Tank → (log escrow : ℕ) → Bool
-isUnasked ks log escrow = rowsLost log escrow || not (any needsBox ks)
-
--- every check is refused with 15, as where lent rows are not 64
+-- every check is refused with 15, as where a lent buffer isn't of its size or the box isn't sound
 unfoldable pub refusedAll : Claim → Checked
 refusedAll g = record { code = 15; number = 0 }
 

@@ -3,7 +3,8 @@ ghost use mathlib.Core.Path.{_≡_};
 ghost use lib.ListN.{length};
 ghost use Rattle.record.specs.Write.{write};
 ghost use Rattle.ideal.specs.Box.{callOn};
-ghost use Rattle.soundness.specs.Parts.{tablesOf};
+ghost use Rattle.ideal.specs.Tables.{lentTables};
+ghost use Rattle.ideal.specs.Layouts.{Sound};
 ghost use Rattle.desk.specs.Desk.{checkOf};
 ghost use Rattle.desk.specs.Results.{checkResult, checkLeaves, needsBox, askedLeaves};
 use crate::Checked;
@@ -11,7 +12,7 @@ use crate::Claim;
 use crate::Tank;
 use crate::correcting::claim_of;
 use crate::deciding::in_ranges;
-use calls::call;
+use calls::call_sound;
 use ideal::BoxRecord;
 use ideal::Profile;
 use record::Fields;
@@ -41,7 +42,7 @@ fn check_record(claim: Claim) -> CheckRecord
     CheckRecord { bytes }
 }
 
-// What the box answers to the check.
+// What a sound box answers to the check.
 fn check(
     held: BoxRecord,
     log: LogTable,
@@ -53,15 +54,18 @@ fn check(
     output: &mut [u8],
     claim: Claim,
 ) -> Checked
+    requires { ⌜
+        Sound (lentTables held (log .rows) (escrow .rows) (now heaps) (now shared) (now «log_values») (now «escrow_values»)) (length (now output))
+        ⌝ }
     ensures { λ r. ⌜
-        checkResult r (tablesOf held log escrow (now (heaps .exit)) (now (shared .exit)) (now («log_values» .exit)) (now («escrow_values» .exit))) (now (output .exit))
-        ≡ checkLeaves callOn (tablesOf held log escrow (now (heaps .entry)) (now (shared .entry)) (now («log_values» .entry)) (now («escrow_values» .entry)))
+        checkResult r (lentTables held (log .rows) (escrow .rows) (now (heaps .exit)) (now (shared .exit)) (now («log_values» .exit)) (now («escrow_values» .exit))) (now (output .exit))
+        ≡ checkLeaves callOn (lentTables held (log .rows) (escrow .rows) (now (heaps .entry)) (now (shared .entry)) (now («log_values» .entry)) (now («escrow_values» .entry)))
         (now (output .entry)) claim
         ⌝ }
 {
     let record = check_record(claim);
     let bytes = record.bytes;
-    let c = call(
+    let c = call_sound(
         Profile::Full,
         held,
         log,
@@ -90,7 +94,7 @@ pub fn needs_box(tank: Tank) -> bool
     in_ranges(tank.reading, tank.setpoint)
 }
 
-// What the box answers to a tank's check, where the tank's answer depends on it. Else the box is not asked, and code and
+// What a sound box answers to a tank's check, where the tank's answer depends on it. Else the box is not asked, and code and
 // number are 0.
 pub fn ask_for(
     tank: Tank,
@@ -103,9 +107,12 @@ pub fn ask_for(
     escrow_values: &mut [u8],
     output: &mut [u8],
 ) -> Checked
+    requires { ⌜
+        Sound (lentTables held (log .rows) (escrow .rows) (now heaps) (now shared) (now «log_values») (now «escrow_values»)) (length (now output))
+        ⌝ }
     ensures { λ r. ⌜
-        checkResult r (tablesOf held log escrow (now (heaps .exit)) (now (shared .exit)) (now («log_values» .exit)) (now («escrow_values» .exit))) (now (output .exit))
-        ≡ askedLeaves callOn (tablesOf held log escrow (now (heaps .entry)) (now (shared .entry)) (now («log_values» .entry)) (now («escrow_values» .entry)))
+        checkResult r (lentTables held (log .rows) (escrow .rows) (now (heaps .exit)) (now (shared .exit)) (now («log_values» .exit)) (now («escrow_values» .exit))) (now (output .exit))
+        ≡ askedLeaves callOn (lentTables held (log .rows) (escrow .rows) (now (heaps .entry)) (now (shared .entry)) (now («log_values» .entry)) (now («escrow_values» .entry)))
         (now (output .entry)) tank
         ⌝ }
 {

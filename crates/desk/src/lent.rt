@@ -1,9 +1,8 @@
 // A list by value, over the rows that a host lends.
 ghost use mathlib.Core.Path.{_≡_};
 ghost use Rattle.ideal.specs.Box.{callOn};
-ghost use Rattle.desk.specs.Counted.{rowsLost};
-ghost use Rattle.caif.specs.Lent.{lentTables};
-ghost use Rattle.desk.specs.Results.{isUnasked, listResult, listLeaves};
+ghost use Rattle.ideal.specs.Tables.{lentTables};
+ghost use Rattle.desk.specs.Results.{listResult, listLeaves};
 use crate::Answers;
 use crate::Tanks;
 use crate::list::desk_list;
@@ -14,26 +13,8 @@ use ideal::EscrowRow;
 use ideal::LogRow;
 use rows::copy_escrow;
 use rows::copy_log;
-
-// Whether the log's rows or the escrow's are not 64.
-pub fn lost(log: usize, escrow: usize) -> bool
-    ensures { λ r. ⌜ r ≡ rowsLost log escrow ⌝ }
-{
-    if log != 64 {
-        return true;
-    }
-    escrow != 64
-}
-
-// Whether the box need not be asked about a list, or refuses every check. Then no row is copied.
-pub fn is_unasked(list: Tanks, log: usize, escrow: usize) -> bool
-    ensures { λ r. ⌜ r ≡ isUnasked (list .rows) log escrow ⌝ }
-{
-    if lost(log, escrow) {
-        return true;
-    }
-    none_asks(list)
-}
+use rows::escrow_unfit;
+use rows::log_unfit;
 
 // Every row of a list, over lent rows and buffers of any count.
 pub fn lent_list(
@@ -53,7 +34,14 @@ pub fn lent_list(
         (now (output .entry)) list
         ⌝ }
 {
-    if is_unasked(list, log.len(), escrow.len()) {
+    // Before the copies, as in caif's lent_call.
+    if none_asks(list) {
+        return refused_list(list);
+    }
+    if log_unfit(&*log, held.log.rows as usize) {
+        return refused_list(list);
+    }
+    if escrow_unfit(&*escrow, held.escrow.rows as usize) {
         return refused_list(list);
     }
     let l = copy_log(&*log);

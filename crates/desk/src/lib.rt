@@ -2,24 +2,24 @@
 mod asking;
 mod correcting;
 mod deciding;
-mod lending;
 mod lent;
 mod list;
+mod tank_rows;
 
 ghost use mathlib.Core.Path.{_≡_};
 ghost use Rattle.ideal.specs.Box.{callOn};
-ghost use Rattle.caif.specs.Lent.{lentTables};
+ghost use Rattle.ideal.specs.Tables.{lentTables};
 ghost use Rattle.desk.specs.Results.{deskResult, deskLeaves, shiftResult, shiftLeaves};
 use fnv::Tag;
 use ideal::BoxRecord;
 use ideal::EscrowRow;
 use ideal::LogRow;
-use lending::copy_tanks;
-use lending::store_answers;
 use lent::lent_list;
 use list::first_of;
 use list::list_of;
 use list::shift_code;
+use tank_rows::copy_tanks;
+use tank_rows::store_answers;
 
 // A tank, as a host lends it. Temperatures are in hundredths of a degree Celsius. Where given is 0 there is no correction,
 // and probe, tag, low and high are not looked at; low and high are the correction's two bytes.

@@ -2,10 +2,12 @@
 ghost use mathlib.Core.Path.{_≡_};
 ghost use mathlib.Core.Bool.{not};
 ghost use mathlib.Core.List.{_∷_, map};
-ghost use lib.ListN.{drop, getD};
+ghost use lib.ListN.{length, drop, getD};
 ghost use Rattle.lists.specs.Lists.{any};
 ghost use Rattle.ideal.specs.Box.{callOn};
-ghost use Rattle.soundness.specs.Parts.{tablesOf};
+ghost use Rattle.ideal.specs.Tables.{lentTables};
+ghost use Rattle.ideal.specs.Layouts.{Sound};
+ghost use Rattle.state.specs.Parts.{RestBlank};
 ghost use Rattle.desk.specs.Decision.{deskBy};
 ghost use Rattle.desk.specs.Desk.{isList, shiftCode};
 ghost use Rattle.desk.specs.Results.{deskResult, deskLeaves, listResult, listLeaves, blankTanks, noAnswer, noAnswers, needsBox, refusedAll};
@@ -18,8 +20,9 @@ use crate::asking::ask_for;
 use crate::asking::needs_box;
 use crate::deciding::answer_of;
 use crate::deciding::desk_with;
-use crate::lending::blank_tanks;
-use crate::lending::with_tank;
+use crate::tank_rows::blank_tanks;
+use crate::tank_rows::with_tank;
+use calls::is_ready;
 use ideal::BoxRecord;
 use state::EscrowTable;
 use state::LogTable;
@@ -71,7 +74,7 @@ fn no_answers() -> Answers
     Answers { rows: [none; 8] }
 }
 
-// One tank, by the tables.
+// One tank, by the tables of a sound box.
 fn desk_of(
     tank: Tank,
     held: BoxRecord,
@@ -83,9 +86,12 @@ fn desk_of(
     escrow_values: &mut [u8],
     output: &mut [u8],
 ) -> TankAnswer
+    requires { ⌜
+        Sound (lentTables held (log .rows) (escrow .rows) (now heaps) (now shared) (now «log_values») (now «escrow_values»)) (length (now output))
+        ⌝ }
     ensures { λ r. ⌜
-        deskResult r (tablesOf held log escrow (now (heaps .exit)) (now (shared .exit)) (now («log_values» .exit)) (now («escrow_values» .exit))) (now (output .exit))
-        ≡ deskLeaves callOn (tablesOf held log escrow (now (heaps .entry)) (now (shared .entry)) (now («log_values» .entry)) (now («escrow_values» .entry)))
+        deskResult r (lentTables held (log .rows) (escrow .rows) (now (heaps .exit)) (now (shared .exit)) (now («log_values» .exit)) (now («escrow_values» .exit))) (now (output .exit))
+        ≡ deskLeaves callOn (lentTables held (log .rows) (escrow .rows) (now (heaps .entry)) (now (shared .entry)) (now («log_values» .entry)) (now («escrow_values» .entry)))
         (now (output .entry)) tank
         ⌝ }
 {
@@ -103,8 +109,8 @@ fn desk_of(
     answer_of(desk_with(tank, checked))
 }
 
-// Every row of a list, by the tables.
-pub fn desk_list(
+// Every row of a list, by the tables of a sound box.
+fn list_sound(
     list: Tanks,
     held: BoxRecord,
     log: LogTable,
@@ -115,9 +121,12 @@ pub fn desk_list(
     escrow_values: &mut [u8],
     output: &mut [u8],
 ) -> Answers
+    requires { ⌜
+        Sound (lentTables held (log .rows) (escrow .rows) (now heaps) (now shared) (now «log_values») (now «escrow_values»)) (length (now output))
+        ⌝ }
     ensures { λ r. ⌜
-        listResult r (tablesOf held log escrow (now (heaps .exit)) (now (shared .exit)) (now («log_values» .exit)) (now («escrow_values» .exit))) (now (output .exit))
-        ≡ listLeaves callOn (tablesOf held log escrow (now (heaps .entry)) (now (shared .entry)) (now («log_values» .entry)) (now («escrow_values» .entry)))
+        listResult r (lentTables held (log .rows) (escrow .rows) (now (heaps .exit)) (now (shared .exit)) (now («log_values» .exit)) (now («escrow_values» .exit))) (now (output .exit))
+        ≡ listLeaves callOn (lentTables held (log .rows) (escrow .rows) (now (heaps .entry)) (now (shared .entry)) (now («log_values» .entry)) (now («escrow_values» .entry)))
         (now (output .entry)) list
         ⌝ }
 {
@@ -157,8 +166,8 @@ pub fn none_asks(list: Tanks) -> bool
     true
 }
 
-// Every row of a list, with every check refused with 15: so it is where lent rows are not 64, and it does not matter where
-// no row needs the box.
+// Every row of a list, with every check refused with 15: so it is where a lent buffer isn't of its size or the box isn't sound,
+// and it does not matter where no row needs the box.
 pub fn refused_list(list: Tanks) -> Answers
     ensures { λ r. ⌜ r .rows ≡ map (deskBy refusedAll) (list .rows) ⌝ }
 {
@@ -175,4 +184,48 @@ pub fn refused_list(list: Tanks) -> Answers
         i = i + 1;
     }
     answers
+}
+
+// Every row of a list, by tables whose unused rows are blank. Soundness is tested once, since no check alters the box.
+pub fn desk_list(
+    list: Tanks,
+    held: BoxRecord,
+    log: LogTable,
+    escrow: EscrowTable,
+    heaps: &mut [u8],
+    shared: &mut [u8],
+    log_values: &mut [u8],
+    escrow_values: &mut [u8],
+    output: &mut [u8],
+) -> Answers
+    requires { ⌜ RestBlank held (log .rows) (escrow .rows) ⌝ }
+    ensures { λ r. ⌜
+        listResult r (lentTables held (log .rows) (escrow .rows) (now (heaps .exit)) (now (shared .exit)) (now («log_values» .exit)) (now («escrow_values» .exit))) (now (output .exit))
+        ≡ listLeaves callOn (lentTables held (log .rows) (escrow .rows) (now (heaps .entry)) (now (shared .entry)) (now («log_values» .entry)) (now («escrow_values» .entry)))
+        (now (output .entry)) list
+        ⌝ }
+{
+    if !is_ready(
+        held,
+        log,
+        escrow,
+        heaps,
+        shared,
+        log_values,
+        escrow_values,
+        output,
+    ) {
+        return refused_list(list);
+    }
+    list_sound(
+        list,
+        held,
+        log,
+        escrow,
+        heaps,
+        shared,
+        log_values,
+        escrow_values,
+        output,
+    )
 }

@@ -11,6 +11,7 @@ use buffers::put;
 use handles::free_handle;
 use ideal::BoxRecord;
 use ideal::EscrowRow;
+use ideal::HEAP;
 use ideal::Used;
 use record::Draw;
 use record::Handle;
@@ -118,7 +119,7 @@ pub fn protect(
         return refuse(held, 11);
     }
     let place = held.running as usize;
-    let start = 256 * place + offset as usize;
+    let start = HEAP * place + offset as usize;
     let end = start + size as usize;
     let source = held.identities[place];
     protect_value(

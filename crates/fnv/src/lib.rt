@@ -1,6 +1,6 @@
 // FNV-1a of 64 bits, and the tag of an identity and a value.
 ghost use mathlib.Core.Path.{_≡_};
-ghost use Prim.Native.Nat.{_*_, _%_, _^_, _≤_};
+ghost use Prim.Native.Nat.{_*_, _%_, _^_, _≤_, _<_};
 ghost use lib.ListN.{length, drop};
 ghost use Rattle.fnv.specs.Fnv.{mixed, fnvFrom, fnv1a, little, tagOf};
 use std::num::wrapping_add_u64;
@@ -83,9 +83,9 @@ struct Two(u64, u64);
 // Four hashes, tags or identities, of as many slices.
 pub struct Four(pub u64, pub u64, pub u64, pub u64);
 
-// No more than either.
+// The lesser of the two.
 fn least(a: usize, b: usize) -> usize
-    ensures { λ r. ⌜ (r ≤ a) × (r ≤ b) ⌝ }
+    ensures { λ r. ⌜ (r ≤ a) × (r ≤ b) × (a < b → r ≡ a) × (b ≤ a → r ≡ b) ⌝ }
 {
     if a < b {
         return a;

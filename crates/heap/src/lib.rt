@@ -1,12 +1,14 @@
 // The running place's heap, written and read.
 ghost use mathlib.Core.Path.{_≡_};
-ghost use Prim.Native.Nat.{_+_, _*_};
+ghost use Prim.Native.Nat.{_+_};
 ghost use lib.ListN.{length};
+ghost use Rattle.ideal.specs.Tables.{heapStart};
 ghost use Rattle.heap.specs.Narrow.{heapRefusal, heapWriteAnswer, heapWriteHeaps, heapReadAnswer, heapReadOutput};
 use buffers::beyond;
 use buffers::put;
 use buffers::show;
 use ideal::BoxRecord;
+use ideal::HEAP;
 use state::Answer;
 use state::accepted;
 use state::refused;
@@ -30,11 +32,11 @@ fn heap_refusal(running: u8, place: u8, offset: u16, size: usize) -> u8
     0
 }
 
-// Place p has the 256 bytes from 256 times p.
+// A byte of a place's heap, among all of them.
 fn heap_byte(place: u8, offset: u16) -> usize
-    ensures { λ r. ⌜ r ≡ 256 * place + offset ⌝ }
+    ensures { λ r. ⌜ r ≡ heapStart place + offset ⌝ }
 {
-    256 * (place as usize) + offset as usize
+    HEAP * (place as usize) + offset as usize
 }
 
 pub fn heap_write(held: BoxRecord, heaps: &mut [u8], place: u8, offset: u16, bytes: &[u8]) -> Answer

@@ -77,7 +77,7 @@ answered s (protect i o m d) used k r = record { number = λ n e. cc; used = ref
 answered s (retrieve i o h) used k r = record { number = λ n e. cc; used = refl; shown = λ h. refl }
 answered s report used k r = record { number = λ n e. cc; used = refl; shown = λ h. refl }
 answered s (handOver p) used k r = record { number = λ n e. cc; used = refl; shown = λ h. refl }
-answered s (chain w i x v) used k r = record { number = λ n e. cc; used = refl; shown = λ h. refl }
+answered s (chain first v) used k r = record { number = λ n e. cc; used = refl; shown = λ h. refl }
 answered s (release i h) used k r = record { number = λ n e. cc; used = refl; shown = λ h. refl }
 
 pub accepted-answers : AcceptedAnswers callOn

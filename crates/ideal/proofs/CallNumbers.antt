@@ -6,13 +6,13 @@ use native.Mathlib.Omega.{arith}
 use native.Mathlib.Nat.{zero-add, add-zero}
 use lib.ListN.{length, getD}
 use lib.Dec.{eqb, ltb}
-use Rattle.record.specs.Call.{Call, create, exit, heapWrite, heapRead, sharedWrite, sharedRead, attest, check, protect, retrieve, report, handOver, chain, release}
+use Rattle.record.specs.Call.{Call, create, exit, heapWrite, heapRead, sharedWrite, sharedRead, attest, check, protect, retrieve, report, handOver, chain, release, firstIn}
 use Rattle.record.specs.Write.{filled}
 use Rattle.ideal.specs.State.{State, caller, any}
 use Rattle.ideal.specs.Step.{paired, full, absent, valueIn, firstHolding, idle, vacant, beyond, tests, refusal}
 use Rattle.ideal.specs.Tables.{boxRecord, tables, stateOf}
 use Rattle.ideal.specs.Valid.{Valid}
-use Rattle.ideal.specs.Refusals.{ownBytes, oneOf, isAbsent, lengthIn, callConditions}
+use Rattle.ideal.specs.Refusals.{ownBytes, oneOf, isAbsent, lengthIn, ofChain, callConditions}
 use Rattle.lists.proofs.Bools.{or-nil}
 use Rattle.ideal.proofs.FoundRows.{pair-rows, found-row}
 use Rattle.ideal.proofs.Links.{chain-first}
@@ -24,7 +24,7 @@ use Rattle.ideal.proofs.OwnHeap.{own-tested}
 module _ (s : State) (back : stateOf (tables s) ≡ s) (valid : Valid s) where
   -- a call's refusal is the first of its conditions that holds
   pub call-first : (c : Call) → refusal s c ≡ firstOf (callConditions (tables s) c)
-  unfolding refusal tests firstHolding firstOf callConditions filled oneOf any idle vacant beyond full tables boxRecord isAbsent absent lengthIn valueIn
+  unfolding refusal tests firstHolding firstOf callConditions ofChain firstIn filled oneOf any idle vacant beyond full tables boxRecord isAbsent absent lengthIn valueIn
   call-first (create p i) = rw (taken-at (s .identities) p, or-nil (ltb 15 p), or-nil (not (eqb (getD (s .identities) p 0) 0)))
   call-first exit = refl
   call-first (heapWrite p o w) = rw (zero-add (length w), or-nil (ltb 15 p), or-nil (ltb 256 (o + length w)))
@@ -42,6 +42,6 @@ module _ (s : State) (back : stateOf (tables s) ≡ s) (valid : Valid s) where
       rw (found-row s back isAbsent absent refl (λ e at. refl) i h, found-row s back lengthIn (λ x. length (valueIn x)) refl (λ e at. refl) i h)
   call-first report = refl
   call-first (handOver p) = rw (taken-at (s .identities) p, Bool·not-not (eqb (getD (s .identities) p 0) 0))
-  call-first (chain w i x v) =
-      ap (cond (idle s) 4) (chain-first s back 16 (record { way = w; identity = i; number = x }) v (omega arith))
+  call-first (chain first v) =
+      ap (cond (idle s) 4) (chain-first s back 16 first v (omega arith))
   call-first (release i h) = rw (found-row s back isAbsent absent refl (λ e at. refl) i h)

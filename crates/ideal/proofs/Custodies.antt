@@ -1,14 +1,14 @@
 -- What a chain says of history. Assumes nothing.
 use Prim.Native.Nat.{ℕ, _-_, _≤_}
-use mathlib.Core.Path.{_≡_, refl, sym, _∙_, subst}
+use mathlib.Core.Path.{_≡_, refl, sym, ap, _∙_, subst}
 use mathlib.Core.List.{List}
 use native.Mathlib.Omega.{arith}
 use lib.ListN.{length, getD}
 use borrow.Author.Tests.{eqb-false, ne-eqb}
-use Rattle.record.specs.Call.{Call, chain}
+use Rattle.record.specs.Call.{Link, identityOf, Call, chain}
 use Rattle.record.specs.Read.{whole, read}
 use Rattle.ideal.specs.State.{State}
-use Rattle.ideal.specs.Step.{Link, found, idle, follow, tests, firstHolding, refusal, number}
+use Rattle.ideal.specs.Step.{found, idle, follow, tests, firstHolding, refusal, number}
 use Rattle.ideal.specs.Box.{Element, callOn, elementAt}
 use Rattle.ideal.specs.Accuracy.{LinkValue, linkAt, Says, Sized, Runs, Vouched, was-logged, was-escrowed, Custody, ChainIsAccurate}
 use Rattle.ideal.proofs.Passing.{failed, passed}
@@ -25,20 +25,21 @@ module _ (es : List Element) (k : ℕ) where
   -- ---- a link on the state, and in history
 
   vouched-of : (h : LinkValue) → Known (s .log) (found s) h → Vouched callOn es k h
-  vouched-of h (in-log w y) = was-logged w (logged-since es (h .link .identity) _ (h .value) k .0 y)
-  vouched-of h (in-escrow e w is value) =
-      was-escrowed w (found-since es k (h .link .identity) _ (h .value) .0 (record { entry = e; is = is; value = value }))
+  vouched-of h (in-log {i = i} {g = g} w y) = was-logged w (logged-since es i g (h .value) k .0 y)
+  vouched-of h (in-escrow {i = i} {g = g} e w is value) =
+      was-escrowed w (found-since es k i g (h .value) .0 (record { entry = e; is = is; value = value }))
 
   stands-of : (h : LinkValue) → Vouched callOn es k h → Stands (s .log) (found s) h
-  stands-of h (was-logged w x) =
+  unfolding identityOf
+  stands-of h (was-logged {i = i} {tag = g} w x) =
       record {
-        named = logs-named es (x .index) (h .link .identity) _ (h .value) (x .there);
-        known = in-log w (logged-since es (h .link .identity) _ (h .value) k .1 x);
+        named = λ z. logs-named es (x .index) i g (h .value) (x .there) (ap identityOf (sym w) ∙ z);
+        known = in-log w (logged-since es i g (h .value) k .1 x);
       }
-  stands-of h (was-escrowed w x) =
-      let f = found-since es k (h .link .identity) _ (h .value) .1 x in
+  stands-of h (was-escrowed {i = i} {handle = g} w x) =
+      let f = found-since es k i g (h .value) .1 x in
       record {
-        named = protects-named es (x .index) (h .link .identity) _ _ (h .value) (x .there) .source;
+        named = λ z. protects-named es (x .index) i _ g (h .value) (x .there) .source (ap identityOf (sym w) ∙ z);
         known = in-escrow (f .entry) w (f .is) (f .value);
       }
 
@@ -70,13 +71,10 @@ module _ (es : List Element) (k : ℕ) where
         bytes = c .bytes;
       }
 
-module _ (es : List Element) (k w i x : ℕ) (v : List ℕ) (used : ℕ)
-    (reads : read (elementAt es k .bytes) ≡ whole (chain w i x v) used) (n : ℕ) where
+module _ (es : List Element) (k : ℕ) (first : Link) (v : List ℕ) (used : ℕ)
+    (reads : read (elementAt es k .bytes) ≡ whole (chain first v) used) (n : ℕ) where
   abbrev c : Call
-  c = chain w i x v
-
-  abbrev first : Link
-  first = record { way = w; identity = i; number = x }
+  c = chain first v
 
   said : Says callOn es n k → Sized callOn es k × Runs callOn es k × Custody callOn es k first v n
   unfolding refusal tests number idle
@@ -104,4 +102,4 @@ module _ (es : List Element) (k w i x : ℕ) (v : List ℕ) (used : ℕ)
       (accepts-at es k c used a, number-at es k c used a ∙ z .1 ∙ q .count)
 
 pub chain-is-accurate : ChainIsAccurate callOn
-chain-is-accurate es k w i x v used reads n = (said es k w i x v used reads n, says es k w i x v used reads n)
+chain-is-accurate es k first v used reads n = (said es k first v used reads n, says es k first v used reads n)

@@ -115,7 +115,7 @@ told {s} {t} k =
           let e : protected s i o n d ≡ protected t i o n d = cc in
           ap (λ x. x .value) e;
       retrieves = λ g i o h q r. and-false (inside group i) _ g;
-      follows = λ g w i x b q left l rest come way some. and-false (inside group (l .identity)) _ g;
+      follows = λ g first b q left i h rest come some. and-false (inside group i) _ g;
     }
 
 pub whole-call : {c d : Call} {m n : ℕ} → whole c m ≡ whole d n → c ≡ d

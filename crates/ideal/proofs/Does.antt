@@ -123,5 +123,5 @@ does s (handOver p) k r =
     let low = ltb-false 16 p (failed 5 _ _ r) in
     let there = failed 6 _ _ (passed 5 (ltb 16 p) _ r) in
     does-activate low (λ h. eqb-false (identityAt s p) 0 (and-other (ltb p 16) _ (lt-ltb p 16 h) there))
-does s (chain w i x v) k r = does-nothing
+does s (chain first v) k r = does-nothing
 does s (release i h) k r = does-release (release-passed s i h k r)

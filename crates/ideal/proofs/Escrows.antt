@@ -25,16 +25,16 @@ use Rattle.ideal.proofs.GivenUp.{IsNamed, is-named, named-is, any-map}
 
 -- ---- what accepted protects add, and accepted releases end
 
-data Protects (s : State) : Call → Type 0 where
+pub data Protects (s : State) : Call → Type 0 where
   protects : {i o n : ℕ} {d : Draw} → ProtectPassed s i o n d → Protects s (protect i o n d)
 
-entry : (s : State) (c : Call) → Protects s c → Escrowed
+unfoldable pub entry : (s : State) (c : Call) → Protects s c → Escrowed
 entry s c (protects {i = i} {o = o} {n = n} {d = d} a) = protected s i o n d
 
-data Releases (s : State) : Call → Type 0 where
+pub data Releases (s : State) : Call → Type 0 where
   releases : {i : ℕ} {h : Handle} → ReleasePassed s i h → Releases s (release i h)
 
-others : {s : State} {c : Call} {m : Move} → Does s c m → Effect (apply s m .escrow ≡ s .escrow) (Protects s c) (Releases s c)
+pub others : {s : State} {c : Call} {m : Move} → Does s c m → Effect (apply s m .escrow ≡ s .escrow) (Protects s c) (Releases s c)
 unfolding apply
 others does-nothing = same refl
 others (does-take h z n) = same refl
@@ -46,7 +46,7 @@ others (does-log a) = same refl
 others (does-escrow a) = adds (protects a)
 others (does-release a) = ends (releases a)
 
-more : (test : Escrowed → Bool) (s : State) (c : Call) (a : Protects s c) → Valid s
+pub more : (test : Escrowed → Bool) (s : State) (c : Call) (a : Protects s c) → Valid s
     → any test (effect s c .escrow) ≡ any test (s .escrow) || test (entry s c a)
 unfolding entry effect move apply
 more test s c (protects a) valid = rw (any-append test (s .escrow), any-one test)

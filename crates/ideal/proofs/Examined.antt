@@ -2,10 +2,11 @@
 use mathlib.Core.Path.{_≡_, refl, _∙_}
 use mathlib.Core.List.{List, [], _∷_}
 use Rattle.fnv.specs.Fnv.{mixed, fnvFrom, fnv1a, little, tagOf}
+use Rattle.record.specs.Call.{linkBy, identityOf}
 use Rattle.record.specs.Layout.{stands, kinds, among, kindOf}
 use Rattle.record.specs.Read.{cut, unknown, wrongMap, fromLittle, field, contents, bytesField, fields, readFields, readKind, afterMap, read}
 use Rattle.ideal.specs.State.{State, cleared, fresh, ownPart, any, find, sameBytes, bytesUsed}
-use Rattle.ideal.specs.Step.{isPair, isLogged, paired, logged, full, withPair, isNamed, isEscrowed, found, absent, valueIn, hasHandle, handleOf, next, freeFrom, freeHandle, spent, givenUp, firstHolding, headOf, isMalformed, nextCount, nextCut, nextValue, bytesAfter, afterHead, linksAfter, linkValue, unvouched, follow, linksFrom, idle, vacant, beyond, tests, refusal, protected, move, apply, effect, services, number, shown, Answer, refusedAnswer, refuse, accepted, settle, readingBy, stepOnBy, stepBy}
+use Rattle.ideal.specs.Step.{isPair, isLogged, paired, logged, full, withPair, isNamed, isEscrowed, found, absent, valueIn, hasHandle, handleOf, next, freeFrom, freeHandle, spent, givenUp, firstHolding, headOf, isMalformed, nextCount, nextCut, nextValue, unreadable, bytesAfter, afterHead, linksAfter, linkValue, unvouched, follow, linksFrom, idle, vacant, beyond, tests, refusal, protected, move, apply, effect, services, number, shown, Answer, refusedAnswer, refuse, accepted, settle, readingBy, stepOnBy, stepBy}
 use Rattle.ideal.specs.Tables.{tables}
 use Rattle.ideal.specs.Box.{Element, laid, callOn, answersFrom}
 use Rattle.ideal.specs.Exam.{hex, says, _gives_, questions, asked, expected, Exam}
@@ -24,7 +25,7 @@ answers-on s [] v = refl
 answers-on s (e ∷ es) v = rw (call-is s e v, answers-on (stepElement s e .state) es (valid-step s e v))
 
 computed : answersOn fresh asked ≡ expected
-unfolding answersOn stepElement hex says _gives_ questions asked expected mixed fnvFrom fnv1a little tagOf stands kinds among kindOf cut unknown wrongMap fromLittle field contents bytesField fields readFields readKind afterMap read cleared fresh ownPart any find sameBytes bytesUsed isPair isLogged paired logged full withPair isNamed isEscrowed found absent valueIn hasHandle handleOf next freeFrom freeHandle spent givenUp firstHolding headOf isMalformed nextCount nextCut nextValue bytesAfter afterHead linksAfter linkValue unvouched follow linksFrom idle vacant beyond tests refusal protected move apply effect services number shown refusedAnswer refuse accepted settle stepBy readingBy stepOnBy
+unfolding answersOn stepElement hex says _gives_ questions asked expected mixed fnvFrom fnv1a little tagOf linkBy identityOf stands kinds among kindOf cut unknown wrongMap fromLittle field contents bytesField fields readFields readKind afterMap read cleared fresh ownPart any find sameBytes bytesUsed isPair isLogged paired logged full withPair isNamed isEscrowed found absent valueIn hasHandle handleOf next freeFrom freeHandle spent givenUp firstHolding headOf isMalformed nextCount nextCut nextValue unreadable bytesAfter afterHead linksAfter linkValue unvouched follow linksFrom idle vacant beyond tests refusal protected move apply effect services number shown refusedAnswer refuse accepted settle stepBy readingBy stepOnBy
 computed = refl
 
 pub examined : Exam

@@ -7,13 +7,13 @@ use mathlib.Core.List.{List, [], _∷_, _++_, map}
 use native.Mathlib.Omega.{arith}
 use lib.ListN.{length, getD, take}
 use lib.Dec.{eqb}
-use Rattle.record.specs.Call.{Call, create, heapWrite, check, handOver, chain}
+use Rattle.record.specs.Call.{loggedLink, escrowedLink, linkBy, wayOf, identityOf, numberOf, Call, create, heapWrite, check, handOver, chain}
 use Rattle.record.specs.Layout.{stands, kinds, among, kindOf}
 use Rattle.record.specs.Read.{whole, read, fromLittle, field, contents, bytesField, fields, readFields, readKind, afterMap}
 use Rattle.record.specs.Write.{write, only, recordOf, filled, recordIn}
 use Rattle.fnv.specs.Fnv.{little}
 use Rattle.ideal.specs.State.{heapAt, fresh, cleared, ownPart, any, find, bytesUsed}
-use Rattle.ideal.specs.Step.{Answer, refusedAnswer, refuse, accepted, settle, stepBy, effect, refusal, firstHolding, headOf, isMalformed, nextCount, nextCut, nextValue, bytesAfter, afterHead, linksAfter, linkValue, unvouched, follow, linksFrom, tests, idle, vacant, beyond, full, isNamed, isEscrowed, found, absent, valueIn, hasHandle, handleOf, next, freeFrom, freeHandle, protected, move, apply, number, shown, readingBy, stepOnBy}
+use Rattle.ideal.specs.Step.{Answer, refusedAnswer, refuse, accepted, settle, stepBy, effect, refusal, firstHolding, headOf, isMalformed, nextCount, nextCut, nextValue, unreadable, bytesAfter, afterHead, linksAfter, linkValue, unvouched, follow, linksFrom, tests, idle, vacant, beyond, full, isNamed, isEscrowed, found, absent, valueIn, hasHandle, handleOf, next, freeFrom, freeHandle, protected, move, apply, number, shown, readingBy, stepOnBy}
 use Rattle.ideal.specs.Tables.{Tables, boxRecord, tables, freshTables}
 use Rattle.ideal.specs.Box.{Element, Result, laid, callOn, elementAt, tablesFrom, tablesAfter, tablesBefore, answerAt}
 use Rattle.ideal.specs.Secrecy.{inside, groupRuns, same, PremiseAt, AlikeLists, Premise, isChain, ownChain, Secrecy}
@@ -29,7 +29,7 @@ use Rattle.ideal.proofs.Secret.{held}
 use Rattle.ideal.proofs.Differing.{Accepted, none, call, after, all-valid, tables-end, Steps, end, step, alike, whole-call, indexed}
 
 abbrev last : Call
-last = chain 3 1 (17 * 2 ^ 48 + 7) []
+last = chain (escrowedLink 1 (record { 0 = 17 * 2 ^ 48 + 7 })) []
 
 -- the bytes of the value that leads on, but for its first
 abbrev tail : List ℕ
@@ -42,7 +42,7 @@ record Computed (a b : ℕ) : Type 0 where
   own : ownChain group (tables (after fresh (before a))) (element last) ≡ true
 
 computed : (a b : ℕ) → Computed a b
-unfolding before group after fresh cleared ownPart any find bytesUsed full isNamed isEscrowed found absent valueIn hasHandle handleOf next freeFrom freeHandle firstHolding idle vacant beyond tests refusal protected move apply effect inside groupRuns isChain ownChain element tables boxRecord stands kinds among kindOf fromLittle field contents bytesField fields readFields readKind afterMap read only recordOf filled recordIn write little
+unfolding before group after fresh cleared ownPart any find bytesUsed full isNamed isEscrowed found absent valueIn hasHandle handleOf next freeFrom freeHandle firstHolding idle vacant beyond tests refusal protected move apply effect inside groupRuns isChain ownChain element tables boxRecord linkBy wayOf identityOf numberOf stands kinds among kindOf fromLittle field contents bytesField fields readFields readKind afterMap read only recordOf filled recordIn write little
 computed a b =
     record {
       accepts =
@@ -60,7 +60,7 @@ computed a b =
 answered : (stepElement (after fresh (before 1)) (element last) .answer ≡ links 0 1)
     × (stepElement (after fresh (before 3)) (element last) .answer ≡ links 0 2)
     × (stepElement (after fresh (before 0)) (element last) .answer ≡ links 19 0)
-unfolding stepElement links refusedAnswer refuse accepted settle stepBy readingBy stepOnBy number shown headOf isMalformed nextCount nextCut nextValue bytesAfter afterHead linksAfter linkValue unvouched follow linksFrom before after fresh cleared ownPart any find bytesUsed full isNamed isEscrowed found absent valueIn hasHandle handleOf next freeFrom freeHandle firstHolding idle vacant beyond tests refusal protected move apply effect element stands kinds among kindOf fromLittle field contents bytesField fields readFields readKind afterMap read only recordOf filled recordIn write little
+unfolding stepElement links refusedAnswer refuse accepted settle stepBy readingBy stepOnBy number shown headOf isMalformed nextCount nextCut nextValue unreadable bytesAfter afterHead linksAfter linkValue unvouched follow linksFrom before after fresh cleared ownPart any find bytesUsed full isNamed isEscrowed found absent valueIn hasHandle handleOf next freeFrom freeHandle firstHolding idle vacant beyond tests refusal protected move apply effect element linkBy wayOf identityOf numberOf stands kinds among kindOf fromLittle field contents bytesField fields readFields readKind afterMap read only recordOf filled recordIn write little
 answered = (refl, refl, refl)
 
 -- a call that neither attests nor protects makes nothing known
@@ -186,8 +186,8 @@ module _ (p : ℕ) (c : Call) (kind who : ℕ) (x : (a b : ℕ) → Compared p c
       let z : _≡_ {A = ℕ} 0 1 = sym (tells-byte 0) ∙ same ∙ tells-byte 1 in
       omega arith
 
-outsider : (a b : ℕ) → Compared 1 (chain 2 1 0 []) 15 3 a b
-unfolding told group after fresh cleared firstHolding idle vacant beyond tests refusal move apply effect inside groupRuns isChain ownChain kindIn element tables boxRecord stands kinds among kindOf fromLittle field contents bytesField fields readFields readKind afterMap read only recordOf filled recordIn write little
+outsider : (a b : ℕ) → Compared 1 (chain (loggedLink 1 (record { 0 = 0 })) []) 15 3 a b
+unfolding told group after fresh cleared firstHolding idle vacant beyond tests refusal move apply effect inside groupRuns isChain ownChain kindIn element tables boxRecord linkBy wayOf identityOf numberOf stands kinds among kindOf fromLittle field contents bytesField fields readFields readKind afterMap read only recordOf filled recordIn write little
 outsider a b =
     record {
       accepts = call refl refl (call refl refl (call refl refl (call refl refl (call refl refl none))));
@@ -200,8 +200,8 @@ outsider a b =
       unprotected = λ e. omega arith;
     }
 
-nobody : (a b : ℕ) → Compared 16 (chain 2 1 0 []) 15 0 a b
-unfolding told group after fresh cleared firstHolding idle vacant beyond tests refusal move apply effect inside groupRuns isChain ownChain kindIn element tables boxRecord stands kinds among kindOf fromLittle field contents bytesField fields readFields readKind afterMap read only recordOf filled recordIn write little
+nobody : (a b : ℕ) → Compared 16 (chain (loggedLink 1 (record { 0 = 0 })) []) 15 0 a b
+unfolding told group after fresh cleared firstHolding idle vacant beyond tests refusal move apply effect inside groupRuns isChain ownChain kindIn element tables boxRecord linkBy wayOf identityOf numberOf stands kinds among kindOf fromLittle field contents bytesField fields readFields readKind afterMap read only recordOf filled recordIn write little
 nobody a b =
     record {
       accepts = call refl refl (call refl refl (call refl refl (call refl refl (call refl refl none))));
@@ -215,7 +215,7 @@ nobody a b =
     }
 
 own-check : (a b : ℕ) → Compared 0 (check 1 (record { 0 = 0 }) []) 10 1 a b
-unfolding told group after fresh cleared firstHolding idle vacant beyond tests refusal move apply effect inside groupRuns isChain ownChain kindIn element tables boxRecord stands kinds among kindOf fromLittle field contents bytesField fields readFields readKind afterMap read only recordOf filled recordIn write little
+unfolding told group after fresh cleared firstHolding idle vacant beyond tests refusal move apply effect inside groupRuns isChain ownChain kindIn element tables boxRecord linkBy wayOf identityOf numberOf stands kinds among kindOf fromLittle field contents bytesField fields readFields readKind afterMap read only recordOf filled recordIn write little
 own-check a b =
     record {
       accepts = call refl refl (call refl refl (call refl refl (call refl refl (call refl refl none))));
@@ -231,7 +231,7 @@ own-check a b =
 pub no-other-exempt : NoOtherExempt
 no-other-exempt =
     record {
-      outsider = shut-out 1 (chain 2 1 0 []) 15 3 outsider;
-      nobody = shut-out 16 (chain 2 1 0 []) 15 0 nobody;
+      outsider = shut-out 1 (chain (loggedLink 1 (record { 0 = 0 })) []) 15 3 outsider;
+      nobody = shut-out 16 (chain (loggedLink 1 (record { 0 = 0 })) []) 15 0 nobody;
       own-check = shut-out 0 (check 1 (record { 0 = 0 }) []) 10 1 own-check;
     }

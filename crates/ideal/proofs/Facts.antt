@@ -8,7 +8,7 @@ use lib.Dec.{eqb, leb}
 use borrow.Author.Tests.{eqb-true, leb-true, eq-eqb, le-leb}
 use Rattle.ideal.specs.State.{Entry, Logged, Escrowed, every}
 use Rattle.ideal.specs.Tables.{Tables, RowsOf, logTable, escrowTable, rowsFrom, takenMap, chunks, usedLog, usedEscrow, stateOf}
-use Rattle.ideal.specs.Soundness.{All, done, _and_, pass, sizesRight, runningTaken, emptyHeapsZero, short, differ, samePair, sameHandle, hasIdentity, hasIdentities, rightTag, rightMark, carriesLength, soundTests, sound}
+use Rattle.ideal.specs.Soundness.{All, done, _and_, pass, tablesSized, sizesRight, runningTaken, emptyHeapsZero, short, differ, samePair, sameHandle, hasIdentity, hasIdentities, rightTag, rightMark, carriesLength, soundTests, sound}
 use Rattle.ideal.specs.Layouts.{Sound}
 use Rattle.lists.proofs.Bools.{and-left, and-right, and-true, and-assoc, and-swap}
 use Rattle.ideal.proofs.Entries.{isShort, goodLogged, goodEscrowed}
@@ -96,9 +96,9 @@ pub record Facts (t : Tables) : Type 0 where
   pub lengths : every carriesLength (usedEscrow t) ≡ true
 
 pub facts : (t : Tables) (n : ℕ) → Sound t n → Facts t
-unfolding sizesRight sound soundTests
+unfolding sizesRight tablesSized sound soundTests
 facts t n s =
-    let (places, (heaps, (shared, (logRows, (logValues, (escrowRows, (escrowValues, (output, end)))))))) = each _ (s .sizes) in
+    let (places, (heaps, (shared, (logRows, (logValues, (escrowRows, (escrowValues, end))))))) = each _ (and-left (tablesSized t) _ (s .sizes)) in
     let (runs, (map, (empty, (lr, (lb, (er, (eb, (lc, (ec, (ls, (es, (li, (ei, (pairs, (tags, (handles, (marks, (lengths, (lk, (lz, (ek, (ez, last)))))))))))))))))))))) = each _ (s .box) in
     record {
       places = eqb-true _ _ places;
@@ -140,18 +140,17 @@ facts t n s =
 
 pub output-size : (t : Tables) (n : ℕ) → sizesRight t n ≡ true → n ≡ 1024
 unfolding sizesRight
-output-size t n h =
-    let (a, (b, (c, (d, (e, (f, (g, (output, end)))))))) = each _ h in
-    eqb-true n 1024 output
+output-size t n h = eqb-true n 1024 (and-right (tablesSized t) _ h)
 
 pub facts-sound : (t : Tables) → Facts t → Sound t 1024
-unfolding sizesRight sound soundTests
+unfolding sizesRight tablesSized sound soundTests
 facts-sound t f =
     let l = f .log in
     let e = f .escrow in
     record {
       sizes =
-          all-pass _
+          and-true (tablesSized t) _
+          (all-pass _
           (eq-eqb _ _ (f .places)
           also eq-eqb _ _ (f .heaps)
           also eq-eqb _ _ (f .shared)
@@ -159,8 +158,8 @@ facts-sound t f =
           also eq-eqb _ _ (l .value-count)
           also eq-eqb _ _ (e .row-count)
           also eq-eqb _ _ (e .value-count)
-          also refl
-          also tt);
+          also tt))
+          refl;
       box =
           all-pass _
           (f .runs

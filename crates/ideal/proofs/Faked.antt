@@ -182,10 +182,10 @@ module _ (test : Tables → Element → Bool) (fake : Tables → Element → Res
   faked-not h = rw h
 
   -- what is accepted, and of which the test holds, is faked
-  fakes : callOn t e .answer .code ≡ 0 → test t e ≡ true → faked test fake t e ≡ fake t e
+  pub fakes : callOn t e .answer .code ≡ 0 → test t e ≡ true → faked test fake t e ≡ fake t e
   fakes z h = faked-is (and-true _ _ (eq-eqb _ 0 z) h)
 
-  serves : test t e ≡ false → faked test fake t e ≡ callOn t e
+  pub serves : test t e ≡ false → faked test fake t e ≡ callOn t e
   serves h = faked-not (and-false (eqb (callOn t e .answer .code) 0) _ h)
 
 refuses : (kind code : ℕ) (es : List Element) (k : ℕ) → kindIn (read (elementAt es k .bytes)) ≡ kind → answer es k .code ≡ 0

@@ -133,7 +133,7 @@ view (whole (protect i o n d) u) = a-protect i o n d u refl
 view (whole (retrieve i o h) u) = another (λ z. omega arith)
 view (whole report u) = another (λ z. omega arith)
 view (whole (handOver p) u) = another (λ z. omega arith)
-view (whole (chain w i x v) u) = another (λ z. omega arith)
+view (whole (chain first v) u) = another (λ z. omega arith)
 view (whole (release i h) u) = another (λ z. omega arith)
 
 module _ {G : ℕ → Bool} {x y : Tables} {e f : Element} (r : Related G x y) (a : AlikeAt G x e f) where

@@ -11,7 +11,7 @@ use Rattle.record.specs.Call.{protect}
 use Rattle.record.specs.Read.{whole, read}
 use Rattle.ideal.specs.declared.EscrowRow.{EscrowRow}
 use Rattle.ideal.specs.State.{any}
-use Rattle.ideal.specs.Step.{hasHandle, freeHandle, number, accepted}
+use Rattle.ideal.specs.Step.{hasHandle, handleOf, freeHandle, number, accepted}
 use Rattle.ideal.specs.Tables.{Tables, stateOf, escrowTable, entriesOf, usedEscrow}
 use Rattle.ideal.specs.Box.{Element, laid, callOn}
 use Rattle.ideal.specs.Accuracy.{candidate, handleUsed, FirstFree, HandleIsFirstFree}
@@ -35,12 +35,14 @@ handle-used t h = used-entries h (t .escrowValues) (usedEscrow t)
 -- the free handle of the state that the tables stand for is the first free one in the tables
 first-free-in : (t : Tables) (n : ℕ) (d : Draw) → length (stateOf t .escrow) ≤ 64
     → FirstFree t n (d .0) (freeHandle n d (stateOf t .escrow))
+unfolding candidate handleOf
 first-free-in t n d few =
     let f = first-free n d (stateOf t .escrow) few in
     record {
       passed = f .passed;
       few = f .few;
       is = f .is;
+      number = ap (λ h. h .0) (f .is);
       free = sym (handle-used t _) ∙ f .free;
       used = λ k l. sym (handle-used t (candidate n (d .0) k)) ∙ f .used k l;
     }

@@ -79,7 +79,7 @@ module _ {table : Tables → Element → List (ℕ × Bool)} {model : Tables →
   number-is (retrieve i o a) used q z = by-count _ used q z _ refl
   number-is report used q z = by-count _ used q z _ refl
   number-is (handOver p) used q z = plain _ used q z _ refl
-  number-is (chain w i x v) used q z = by-count _ used q z _ refl
+  number-is (chain first v) used q z = by-count _ used q z _ refl
   number-is (release i h) used q z = plain _ used q z _ refl
 
   pub same-accepted : (s .answer .code ≡ 0 → Whole (e .bytes)) → SameAccepted r s

@@ -14,7 +14,7 @@ use borrow.Author.Tests.{eqb-true, eqb-false, ne-eqb, eq-eqb}
 use Rattle.fnv.specs.declared.Tag.{Tag}
 use Rattle.record.specs.declared.Handle.{Handle}
 use Rattle.record.specs.declared.Draw.{Draw}
-use Rattle.record.specs.Call.{Call, create, exit, heapWrite, heapRead, sharedWrite, sharedRead, attest, check, protect, retrieve, report, handOver, chain, release}
+use Rattle.record.specs.Call.{Link, Call, create, exit, heapWrite, heapRead, sharedWrite, sharedRead, attest, check, protect, retrieve, report, handOver, chain, release}
 use Rattle.record.specs.Read.{Reading, refused, whole, read}
 use Rattle.record.specs.Write.{filled}
 use Rattle.ideal.specs.State.{Move, any}
@@ -39,7 +39,7 @@ use Rattle.ideal.proofs.OnePast.{one-past}
 -- ---- a run, one call more
 
 module _ (box : Box) where
-  tables-more : (es fs : List Element) (t : Tables) → tablesFrom box t (es ++ fs) ≡ tablesFrom box (tablesFrom box t es) fs
+  pub tables-more : (es fs : List Element) (t : Tables) → tablesFrom box t (es ++ fs) ≡ tablesFrom box (tablesFrom box t es) fs
   unfolding tablesFrom
   tables-more [] fs t = refl
   tables-more (e ∷ es) fs t = tables-more es fs (box t e .tables)
@@ -80,7 +80,7 @@ same-event (protect i o m d) t w x n f = refl
 same-event (retrieve i o h) t w x n f = rw (f i o h refl)
 same-event report t w x n f = refl
 same-event (handOver p) t w x n f = refl
-same-event (chain a i y v) t w x n f = refl
+same-event (chain first v) t w x n f = refl
 same-event (release i h) t w x n f = refl
 
 -- ---- what a refused and an accepted call add to the past
@@ -219,13 +219,13 @@ module _ (box : Box) (numbers : EachNumber box) (answers : AcceptedAnswers box) 
         let x = d .no .0 (z, m) in
         c .no .1 (x .0, x .1, λ l. x .2 (logged-too (calls-before h) l)) .1 ∙ sym m)
 
-    chain-is : (w i x : ℕ) (v : List ℕ) (used : ℕ) → read (e .bytes) ≡ whole (chain w i x v) used
+    chain-is : (first : Link) (v : List ℕ) (used : ℕ) → read (e .bytes) ≡ whole (chain first v) used
         → answerAt callOn es k .code ≡ 0 → answerAt box es k .number ≡ answerAt callOn es k .number
-    chain-is w i x v used q z =
+    chain-is first v used q z =
         let n = answerAt callOn es k .number in
-        let y = demands .two .history .chains es k w i x v used q n .0 (z, refl) in
+        let y = demands .two .history .chains es k first v used q n .0 (z, refl) in
         let runs : Runs box es k = λ r. y .1 (ap (λ u. u .box .running) (sym before) ∙ r) in
-        history .chains es k w i x v used q n .1 (y .0, runs, custody-too (calls-before (back h)) (y .2)) .1
+        history .chains es k first v used q n .1 (y .0, runs, custody-too (calls-before (back h)) (y .2)) .1
 
     handle-is : (i o n : ℕ) (d : Draw) (used : ℕ) → read (e .bytes) ≡ whole (protect i o n d) used
         → answerAt callOn es k .code ≡ 0 → answerAt box es k .number ≡ answerAt callOn es k .number
@@ -271,7 +271,7 @@ module _ (box : Box) (numbers : EachNumber box) (answers : AcceptedAnswers box) 
     number-is (retrieve i o a) used q z = let x = both i o a used q z in x .r .accepts .1 ∙ sym (x .s .accepts .1)
     number-is report used q z = report-is used q z
     number-is (handOver p) used q z = plain _ used q z _ refl
-    number-is (chain w i x v) used q z = chain-is w i x v used q z
+    number-is (chain first v) used q z = chain-is first v used q z
     number-is (release i h) used q z = plain _ used q z _ refl
 
     shown-is : (c : Call) (used : ℕ) → read (e .bytes) ≡ whole c used → answerAt callOn es k .code ≡ 0
@@ -293,7 +293,7 @@ module _ (box : Box) (numbers : EachNumber box) (answers : AcceptedAnswers box) 
     shown-is (retrieve i o a) used q z = none _ used q z refl
     shown-is report used q z = none _ used q z refl
     shown-is (handOver p) used q z = none _ used q z refl
-    shown-is (chain w i x v) used q z = none _ used q z refl
+    shown-is (chain first v) used q z = none _ used q z refl
     shown-is (release i h) used q z = none _ used q z refl
 
     when-accepted : (c : Call) (used : ℕ) → read (e .bytes) ≡ whole c used → answerAt callOn es k .code ≡ 0

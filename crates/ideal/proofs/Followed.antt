@@ -7,18 +7,21 @@ use mathlib.Core.Option.{Option, none, some}
 use native.Mathlib.Omega.{arith}
 use lib.ListN.{length, getD, take, drop, take-append-drop, length-append, length-take, length-drop}
 use lib.Seq.{take-append-seam, drop-append-seam, drop-drop}
-use lib.Dec.{eqb, ltb}
+use lib.Dec.{eqb}
 use borrow.Author.Tests.{eqb-true, eqb-false, eq-eqb, ne-eqb, ltb-true, ltb-false, le-ltb, lt-ltb, not-false}
+use Rattle.fnv.specs.declared.Tag.{Tag}
 use Rattle.record.specs.declared.Handle.{Handle}
+use Rattle.record.specs.Call.{Link, loggedLink, escrowedLink, strayLink, linkBy, wayOf, identityOf, numberOf}
 use Rattle.record.specs.Read.{fromLittle}
-use Rattle.ideal.specs.State.{Logged, Escrowed}
-use Rattle.ideal.specs.Step.{Link, Head, malformed, ends, leads, headOf, isMalformed, nextCount, nextCut, nextValue, bytesAfter, afterHead, linksAfter, linkValue, unvouched, follow, linksFrom, logged, absent, valueIn, accept, _then_, firstHolding}
+use Rattle.ideal.specs.State.{Logged, Escrowed, part}
+use Rattle.ideal.specs.Step.{Head, malformed, ends, leads, headOf, isMalformed, nextCount, nextCut, nextValue, unreadable, bytesAfter, afterHead, linksAfter, linkValue, unvouched, follow, linksFrom, logged, absent, valueIn, accept, _then_, firstHolding}
 use Rattle.ideal.specs.Refusals.{leadsOn, namedIn}
 use Rattle.ideal.specs.Accuracy.{LinkValue, linkAt, Names, ChainBytes, no-links, logged-link, escrowed-link}
-use Rattle.lists.proofs.Bools.{by-cases, clash, and-right, and-true}
+use Rattle.record.proofs.KindRows.{named}
+use Rattle.lists.proofs.Bools.{clash, and-right, and-true}
 use Rattle.ideal.proofs.Passing.{failed, passed}
 use Rattle.ideal.proofs.Heads.{same-leads, HeadIs, is-malformed, is-end, is-next, head-is}
-use Rattle.ideal.proofs.Following.{unreadable, Clear}
+use Rattle.ideal.proofs.Following.{Clear}
 
 abbrev held : Link → List ℕ → LinkValue
 held k v = record { link = k; value = v }
@@ -34,25 +37,31 @@ names-of v m e = by (head-is v)
     by (is-end q a b) = absurd (let z : ends ≡ leads m = sym q ∙ e in let z : _≡_ {A = ℕ} 0 1 = cc in omega arith)
     by (is-next q a b) =
         let same : namedIn v ≡ m = same-leads (sym q ∙ e) in
+        let is = named (getD v 0 0) (fromLittle (part v 1 8)) (fromLittle (part v 9 8)) in
         rw (← same)
         (record {
-          way = refl;
+          way = sym (is .way);
           long = ltb-true 16 (length v) (and-right (eqb (getD v 0 0) 2 || eqb (getD v 0 0) 3) _ b);
-          identity = refl;
-          number = refl;
+          identity = sym (is .identity);
+          number = sym (is .number);
         })
 
-leads-of : (v : List ℕ) (m : Link) → Names v m → (eqb (m .way) 2 || eqb (m .way) 3) ≡ true → headOf v ≡ leads m
+-- a link of way 2 or 3, as its numbers name it
+record IsWay (m : Link) : Type 0 where
+  way : (eqb (wayOf m) 2 || eqb (wayOf m) 3) ≡ true
+  is : linkBy (wayOf m) (identityOf m) (numberOf m) ≡ m
+
+leads-of : (v : List ℕ) (m : Link) → Names v m → IsWay m → headOf v ≡ leads m
 unfolding leadsOn
 leads-of v m n w = by (head-is v)
   where
     on : leadsOn v ≡ true
-    on = and-true (eqb (getD v 0 0) 2 || eqb (getD v 0 0) 3) _ (rw (n .way) w) (lt-ltb 16 (length v) (n .long))
+    on = and-true (eqb (getD v 0 0) 2 || eqb (getD v 0 0) 3) _ (rw (n .way) (w .way)) (lt-ltb 16 (length v) (n .long))
 
     by : HeadIs v → headOf v ≡ leads m
     by (is-malformed q a b) = clash _ on b
     by (is-end q a b) = clash _ on b
-    by (is-next q a b) = q ∙ (λ j. leads (record { way = n .way j; identity = n .identity j; number = n .number j }))
+    by (is-next q a b) = q ∙ (λ j. leads (linkBy (n .way j) (n .identity j) (n .number j))) ∙ ap leads (w .is)
 
 ends-of : (v : List ℕ) → getD v 0 0 ≡ 1 → headOf v ≡ ends
 ends-of v e = by (head-is v)
@@ -70,23 +79,17 @@ one-of v e = by (head-is v)
     by (is-end q a b) = eqb-true _ _ a
     by (is-next q a b) = absurd (let z : leads (namedIn v) ≡ ends = sym q ∙ e in let z : _≡_ {A = ℕ} 0 1 = cc in omega arith)
 
--- a link that can be read and is not logged is escrowed
-escrowed-way : (k : Link) (bs : List ℕ) → unreadable k bs ≡ false → eqb (k .way) 2 ≡ false → k .way ≡ 3
-escrowed-way k bs r e =
-    by-cases (eqb (k .way) 3) (λ f. eqb-true (k .way) 3 f)
-    (λ f. absurd (let q : true ≡ false = rw (e, f) at r in false≢true (sym q)))
-
 -- ---- a chain, link by link
 
 module _ (log : List Logged) (lookUp : ℕ → Handle → Option Escrowed) where
   -- a link with a value that is logged, or found in the escrow
   pub data Known (h : LinkValue) : Type 0 where
-    in-log : h .link .way ≡ 2 → logged (h .link .identity) (record { 0 = h .link .number }) (h .value) log ≡ true → Known h
-    in-escrow : (e : Escrowed) → h .link .way ≡ 3 → lookUp (h .link .identity) (record { 0 = h .link .number }) ≡ some e
-        → e .value ≡ h .value → Known h
+    in-log : {i : ℕ} {g : Tag} → h .link ≡ loggedLink i g → logged i g (h .value) log ≡ true → Known h
+    in-escrow : {i : ℕ} {g : Handle} (e : Escrowed) → h .link ≡ escrowedLink i g → lookUp i g ≡ some e → e .value ≡ h .value
+        → Known h
 
   pub record Stands (h : LinkValue) : Type 0 where
-    pub named : h .link .identity ≡ 0 → ⊥
+    pub named : identityOf (h .link) ≡ 0 → ⊥
     pub known : Known h
 
   pub record Passed (k : Link) (bs v : List ℕ) : Type 0 where
@@ -143,7 +146,7 @@ module _ (log : List Logged) (lookUp : ℕ → Handle → Option Escrowed) where
   of-tests zero k bs z = absurd (sixteen-followed k bs z)
   of-tests (suc left) k bs z =
       let z₁ = passed 18 (unreadable k bs) _ z in
-      let z₂ = passed 8 (eqb (k .identity) 0) _ z₁ in
+      let z₂ = passed 8 (eqb (identityOf k) 0) _ z₁ in
       let z₃ = passed 17 (unvouched log lookUp k bs) _ z₂ in
       let c : Clear log lookUp k bs =
       record { reads = failed 18 (unreadable k bs) _ z; named = failed 8 _ _ z₁; vouched = failed 17 _ _ z₂ } in
@@ -178,42 +181,36 @@ module _ (log : List Logged) (lookUp : ℕ → Handle → Option Escrowed) where
   -- a link's value, at the front of the chain bytes where it is logged
   bytes-of : (k : Link) (bs v : List ℕ) (hs : List LinkValue) → Passed k bs v → ChainBytes hs (bytesAfter k bs)
       → ChainBytes (held k v ∷ hs) bs
-  unfolding linkValue bytesAfter nextCut nextValue nextCount
-  bytes-of k bs v hs p rest =
-      by-cases (eqb (k .way) 2)
-      (λ e.
+  unfolding linkValue unreadable bytesAfter nextCut nextValue nextCount
+  bytes-of (loggedLink i g) bs v hs p rest =
       let n = nextCount bs in
-      let cut : ltb (length bs) (2 + n) ≡ false = rw e at (p .clear .reads) in
-      let fits = ltb-false (length bs) (2 + n) cut in
-      let v₁ : take n (drop 2 bs) ≡ v = rw e at (p .value) in
-      let left : ChainBytes hs (drop (2 + n) bs) = rw e at rest in
+      let fits = ltb-false (length bs) (2 + n) (p .clear .reads) in
+      let v₁ : take n (drop 2 bs) ≡ v = p .value in
       let whole : take 2 bs ++ (v ++ drop (2 + n) bs) ≡ bs =
       rw (← v₁, ← drop-drop n 2 bs, take-append-drop n (drop 2 bs)) (take-append-drop 2 bs) in
       let size : fromLittle (take 2 bs) ≡ length v = rw (← v₁) (omega (arith, length-take n (drop 2 bs), length-drop 2 bs)) in
-      subst (λ x. ChainBytes (held k v ∷ hs) x) whole
-      (logged-link (take 2 bs) (eqb-true (k .way) 2 e) (omega (arith, length-take 2 bs)) size left))
-      (λ e. escrowed-link (escrowed-way k bs (p .clear .reads) e) (rw e at rest))
+      subst (λ x. ChainBytes (held (loggedLink i g) v ∷ hs) x) whole
+      (logged-link (take 2 bs) refl (omega (arith, length-take 2 bs)) size rest)
+  bytes-of (escrowedLink i g) bs v hs p rest = escrowed-link refl rest
+  bytes-of (strayLink w i x) bs v hs p rest = absurd (false≢true (sym (p .clear .reads)))
 
   found-of : (o : Option Escrowed) → absent o ≡ false → (e : Escrowed) × (o ≡ some e) × (e .value ≡ valueIn o)
   unfolding absent valueIn
   found-of none a = absurd (false≢true (sym a))
   found-of (some e) a = (e, refl, refl)
 
-  stands-of : (k : Link) (bs v : List ℕ) → Passed k bs v → Stands (held k v)
+  known-of : (k : Link) (bs v : List ℕ) → Passed k bs v → Known (held k v)
   unfolding linkValue unvouched
-  stands-of k bs v p =
-      record {
-        named = eqb-false (k .identity) 0 (p .clear .named);
-        known =
-            by-cases (eqb (k .way) 2)
-            (λ e.
-            let v₁ : nextValue bs ≡ v = rw e at (p .value) in
-            let yes = not-false (logged (k .identity) (record { 0 = k .number }) (nextValue bs) log) (rw e at (p .clear .vouched)) in
-            in-log (eqb-true (k .way) 2 e) (rw v₁ at yes))
-            (λ e.
-            let (entry, is, value) = found-of (lookUp (k .identity) (record { 0 = k .number })) (rw e at (p .clear .vouched)) in
-            in-escrow entry (escrowed-way k bs (p .clear .reads) e) is (value ∙ rw e at (p .value)));
-      }
+  known-of (loggedLink i g) bs v p =
+      let yes = not-false (logged i g (nextValue bs) log) (p .clear .vouched) in
+      in-log refl (ap (λ x. logged i g x log) (sym (p .value)) ∙ yes)
+  known-of (escrowedLink i h) bs v p =
+      let (entry, is, value) = found-of (lookUp i h) (p .clear .vouched) in
+      in-escrow entry refl is (value ∙ p .value)
+  known-of (strayLink w i x) bs v p = absurd (false≢true (sym (p .clear .vouched)))
+
+  stands-of : (k : Link) (bs v : List ℕ) → Passed k bs v → Stands (held k v)
+  stands-of k bs v p = record { named = eqb-false (identityOf k) 0 (p .clear .named); known = known-of k bs v p }
 
   pub links-of : {k : Link} {bs : List ℕ} {hs : List LinkValue} → Followed k bs hs → Links k bs hs
   unfolding linkAt
@@ -267,29 +264,37 @@ module _ (log : List Logged) (lookUp : ℕ → Handle → Option Escrowed) where
     left-is : drop (2 + nextCount bs) bs ≡ rest
     left-is = rw count-is (sym (drop-drop (length v) 2 bs) ∙ ap (drop (length v)) behind ∙ drop-append-seam v rest)
 
-  way-known : (h : LinkValue) → Stands h → (eqb (h .link .way) 2 || eqb (h .link .way) 3) ≡ true
-  way-known h s = by (s .known)
-    where
-      by : Known h → (eqb (h .link .way) 2 || eqb (h .link .way) 3) ≡ true
-      by (in-log w y) = rw w
-      by (in-escrow e w is value) = rw w
+  way-known : (h : LinkValue) → Known h → IsWay (h .link)
+  unfolding linkBy wayOf identityOf numberOf
+  way-known h (in-log w y) = rw w (record { way = refl; is = refl })
+  way-known h (in-escrow e w is value) = rw w (record { way = refl; is = refl })
 
-  logged-known : (h : LinkValue) → h .link .way ≡ 2 → Known h
-      → logged (h .link .identity) (record { 0 = h .link .number }) (h .value) log ≡ true
-  logged-known h w (in-log _ y) = y
-  logged-known h w (in-escrow e w′ is value) = absurd (omega arith)
+  logged-known : (h : LinkValue) {i : ℕ} {g : Tag} → h .link ≡ loggedLink i g → Known h → logged i g (h .value) log ≡ true
+  logged-known h {i} {g} w (in-log {i = j} {g = f} u y) =
+      let same : loggedLink j f ≡ loggedLink i g = sym u ∙ w in
+      let a : j ≡ i = cc in
+      let b : f ≡ g = cc in
+      subst (λ x. logged x g (h .value) log ≡ true) a (subst (λ x. logged j x (h .value) log ≡ true) b y)
+  logged-known h {i} {g} w (in-escrow {i = j} {g = f} e u is value) =
+      absurd (let other : escrowedLink j f ≡ loggedLink i g = sym u ∙ w in let z : _≡_ {A = ℕ} 0 1 = cc in omega arith)
 
-  found-known : (h : LinkValue) → h .link .way ≡ 3 → Known h
-      → let o = lookUp (h .link .identity) (record { 0 = h .link .number }) in (absent o ≡ false) × (valueIn o ≡ h .value)
+  found-known : (h : LinkValue) {i : ℕ} {g : Handle} → h .link ≡ escrowedLink i g → Known h
+      → (absent (lookUp i g) ≡ false) × (valueIn (lookUp i g) ≡ h .value)
   unfolding absent valueIn
-  found-known h w (in-log w′ y) = absurd (omega arith)
-  found-known h w (in-escrow e _ is value) = (rw is, rw is value)
+  found-known h {i} {g} w (in-log {i = j} {g = f} u y) =
+      absurd (let other : loggedLink j f ≡ escrowedLink i g = sym u ∙ w in let z : _≡_ {A = ℕ} 0 1 = cc in omega arith)
+  found-known h {i} {g} w (in-escrow {i = j} {g = f} e u is value) =
+      let same : escrowedLink j f ≡ escrowedLink i g = sym u ∙ w in
+      let a : j ≡ i = cc in
+      let b : f ≡ g = cc in
+      let found : lookUp i g ≡ some e = subst (λ x. lookUp x g ≡ some e) a (subst (λ x. lookUp j x ≡ some e) b is) in
+      (rw found, rw found value)
 
   no-bytes : {bs : List ℕ} → ChainBytes [] bs → bs ≡ []
   no-bytes no-links = refl
 
   front-of : (h : LinkValue) (hs : List LinkValue) (bs : List ℕ) → Stands h → ChainBytes (h ∷ hs) bs → Front h hs bs
-  unfolding bytesAfter linkValue unvouched
+  unfolding unreadable bytesAfter linkValue unvouched
   front-of h hs _ s (logged-link {bs = rest} count w two size left) =
       let v = h .value in
       record {
@@ -298,7 +303,7 @@ module _ (log : List Logged) (lookUp : ℕ → Handle → Option Escrowed) where
               clear =
                   record {
                     reads = rw (w, whole-is count v rest two size);
-                    named = ne-eqb (h .link .identity) 0 (s .named);
+                    named = ne-eqb (identityOf (h .link)) 0 (s .named);
                     vouched = rw (w, value-is count v rest two size, logged-known h w (s .known));
                   };
               value = rw w (value-is count v rest two size);
@@ -312,7 +317,7 @@ module _ (log : List Logged) (lookUp : ℕ → Handle → Option Escrowed) where
               clear =
                   record {
                     reads = rw w;
-                    named = ne-eqb (h .link .identity) 0 (s .named);
+                    named = ne-eqb (identityOf (h .link)) 0 (s .named);
                     vouched = rw w (found-known h w (s .known) .0);
                   };
               value = rw w (found-known h w (s .known) .1);
@@ -339,5 +344,5 @@ module _ (log : List Logged) (lookUp : ℕ → Handle → Option Escrowed) where
         bytes = f .left;
       } in
       subst (λ x. Followed x bs (h ∷ g ∷ hs)) (l .begins)
-      (leads-on (f .passed) (leads-of (h .value) (g .link) (l .leads 0 (omega arith)) (way-known g (l .stands 1 (omega arith))))
+      (leads-on (f .passed) (leads-of (h .value) (g .link) (l .leads 0 (omega arith)) (way-known g (l .stands 1 (omega arith) .known)))
       (followed-of (g ∷ hs) (g .link) (bytesAfter (h .link) bs) rest))

@@ -1,26 +1,22 @@
 -- The links that a chain comes to, and two escrows in which it comes to the same. Assumes nothing.
 use Prim.Native.Nat.{ℕ, zero, suc, _+_}
-use mathlib.Core.Path.{_≡_, refl, ap}
-use mathlib.Core.Bool.{Bool, true, false, not, _&&_, _||_}
+use mathlib.Core.Path.{_≡_, refl, ap, subst}
+use mathlib.Core.Bool.{false}
 use mathlib.Core.List.{List}
 use mathlib.Core.Option.{Option}
 use native.Mathlib.Omega.{arith}
 use lib.Dec.{eqb}
-use borrow.Author.Tests.{eqb-true}
 use Rattle.record.specs.declared.Handle.{Handle}
+use Rattle.record.specs.Call.{Link, loggedLink, escrowedLink, strayLink, identityOf}
 use Rattle.ideal.specs.State.{Logged, Escrowed}
-use Rattle.ideal.specs.Step.{Link, Head, malformed, ends, leads, headOf, isMalformed, nextCut, bytesAfter, afterHead, linksAfter, linkValue, unvouched, follow, linksFrom, absent, firstHolding}
+use Rattle.ideal.specs.Step.{Head, malformed, ends, leads, headOf, isMalformed, unreadable, bytesAfter, afterHead, linksAfter, linkValue, unvouched, follow, linksFrom, absent, firstHolding}
 use Rattle.lists.proofs.Bools.{by-cases}
 use Rattle.ideal.proofs.TwoEscrows.{SameFound}
-
--- the first of a link's tests: its way is not 2 or 3, or its value is cut
-abbrev pub unreadable : Link → List ℕ → Bool
-unreadable k bs = not (eqb (k .way) 2 || eqb (k .way) 3) || (eqb (k .way) 2 && nextCut bs)
 
 -- a link that is passed: its value is there, it is named, and it is vouched for
 pub record Clear (log : List Logged) (lookUp : ℕ → Handle → Option Escrowed) (k : Link) (bs : List ℕ) : Type 0 where
   pub reads : unreadable k bs ≡ false
-  pub named : eqb (k .identity) 0 ≡ false
+  pub named : eqb (identityOf k) 0 ≡ false
   pub vouched : unvouched log lookUp k bs ≡ false
 
 -- from k on a chain comes to a link, with these chain bytes left, where so many may still be followed
@@ -33,30 +29,26 @@ pub data Comes (log : List Logged) (lookUp : ℕ → Handle → Option Escrowed)
 -- ---- two look-ups that agree where a chain comes
 
 module _ (log : List Logged) (one two : ℕ → Handle → Option Escrowed) where
-  -- the value under a link, in both
-  abbrev pub Agree : Link → Type 0
-  Agree k = SameFound false (one (k .identity) (record { 0 = k .number })) (two (k .identity) (record { 0 = k .number }))
+  -- the value under a handle, in both
+  abbrev pub Agree : ℕ → Handle → Type 0
+  Agree i h = SameFound false (one i h) (two i h)
 
   record SameLink (k : Link) (bs : List ℕ) : Type 0 where
     value : linkValue log one k bs ≡ linkValue log two k bs
     vouched : unvouched log one k bs ≡ unvouched log two k bs
 
-  same-link : (k : Link) (bs : List ℕ) → unreadable k bs ≡ false → (k .way ≡ 3 → Agree k) → SameLink k bs
+  same-link : (k : Link) (bs : List ℕ) → ((i : ℕ) (h : Handle) → k ≡ escrowedLink i h → Agree i h) → SameLink k bs
   unfolding linkValue unvouched
-  same-link k bs r h =
-      by-cases (eqb (k .way) 2)
-      (λ e. record { value = rw e; vouched = rw e })
-      (λ e.
-      by-cases (eqb (k .way) 3)
-      (λ f. let a = h (eqb-true (k .way) 3 f) in record { value = rw e (a .value refl); vouched = rw e (a .absent) })
-      (λ f. absurd (let q : true ≡ false = rw (e, f) at r in let z : _≡_ {A = ℕ} 0 1 = cc in omega arith)))
+  same-link (loggedLink i g) bs a = record { value = refl; vouched = refl }
+  same-link (escrowedLink i h) bs a = let b = a i h refl in record { value = b .value refl; vouched = b .absent }
+  same-link (strayLink w i x) bs a = record { value = refl; vouched = refl }
 
   -- the same test refuses, and an accepted chain has as many links
   pub record SameChain (left : ℕ) (l : Link) (rest : List ℕ) : Type 0 where
     pub refuses : firstHolding (follow log one left l rest) ≡ firstHolding (follow log two left l rest)
     pub counts : firstHolding (follow log one left l rest) ≡ 0 → linksFrom log one left l rest ≡ linksFrom log two left l rest
 
-  by-head : (left : ℕ) (l : Link) (rest : List ℕ) → unreadable l rest ≡ false → eqb (l .identity) 0 ≡ false
+  by-head : (left : ℕ) (l : Link) (rest : List ℕ) → unreadable l rest ≡ false → eqb (identityOf l) 0 ≡ false
       → unvouched log one l rest ≡ false → SameLink l rest
       → ((m : Link) → headOf (linkValue log one l rest) ≡ leads m → SameChain left m (bytesAfter l rest))
       → (h : Head) → headOf (linkValue log one l rest) ≡ h → SameChain (suc left) l rest
@@ -78,7 +70,7 @@ module _ (log : List Logged) (one two : ℕ → Handle → Option Escrowed) wher
       }
 
   module _ (k : Link) (bs : List ℕ)
-      (agree : (left : ℕ) (l : Link) (rest : List ℕ) → Comes log one k bs (suc left) l rest → l .way ≡ 3 → Agree l) where
+      (agree : (left i : ℕ) (h : Handle) (rest : List ℕ) → Comes log one k bs (suc left) (escrowedLink i h) rest → Agree i h) where
     pub same-chain : (left : ℕ) (l : Link) (rest : List ℕ) → Comes log one k bs left l rest → SameChain left l rest
     unfolding follow firstHolding linksFrom
     same-chain zero l rest c = record { refuses = refl; counts = λ _. refl }
@@ -86,8 +78,8 @@ module _ (log : List Logged) (one two : ℕ → Handle → Option Escrowed) wher
         by-cases (unreadable l rest)
         (λ r. record { refuses = rw r; counts = λ z. absurd (let q : 19 ≡ 0 = rw r at z in omega arith) })
         (λ r.
-        let same = same-link l rest r (agree left l rest c) in
-        by-cases (eqb (l .identity) 0)
+        let same = same-link l rest (λ i h e. agree left i h rest (subst (λ a. Comes log one k bs (suc left) a rest) e c)) in
+        by-cases (eqb (identityOf l) 0)
         (λ i. record { refuses = rw (r, i); counts = λ z. absurd (let q : 9 ≡ 0 = rw (r, i) at z in omega arith) })
         (λ i.
         by-cases (unvouched log one l rest)

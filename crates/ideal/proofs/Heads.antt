@@ -7,7 +7,8 @@ use native.Mathlib.Omega.{arith}
 use lib.ListN.{length, getD}
 use lib.Dec.{eqb, ltb, leb}
 use borrow.Author.Tests.{lt-ltb, le-ltb, leb-true, leb-false, eqb-true}
-use Rattle.ideal.specs.Step.{Link, malformed, ends, leads, headOf}
+use Rattle.record.specs.Call.{Link}
+use Rattle.ideal.specs.Step.{malformed, ends, leads, headOf}
 use Rattle.ideal.specs.Refusals.{leadsOn, namedIn}
 use Rattle.lists.proofs.Bools.{by-cases}
 

@@ -60,7 +60,7 @@ event-is s (protect i o n d) k r =
 event-is s (retrieve i o a) k r = ap (writes (s .running) o) (retrieved s i o a k r)
 event-is s report k r = refl
 event-is s (handOver p) k r = refl
-event-is s (chain w i x v) k r = refl
+event-is s (chain first v) k r = refl
 event-is s (release i h) k r = refl
 
 -- ---- the tables of a state are as the past says

@@ -31,7 +31,7 @@ use Rattle.ideal.proofs.Runs.{stateBefore, valid-before, tables-before}
 use Rattle.ideal.proofs.OwnRefusals.{barredWith}
 use Rattle.ideal.proofs.OneAnswer.{code-is}
 use Rattle.ideal.proofs.Yields.{as-full, barred, yields}
-use Rattle.ideal.proofs.StandIns.{Turns, in-full, bars, fs, tables-before as tables-in-full, history-kept, reports-kept, handles-once, check-kept}
+use Rattle.ideal.proofs.StandIns.{Turns, in-full, bars, Reaches, fs, tables-before as tables-in-full, history-kept, reports-kept, handles-once, check-kept}
 
 -- ---- a box that is the level-one box at these elements, and the full one at the others
 
@@ -61,9 +61,9 @@ sized-code true x n f q = (refl, q)
 sized-code false x n f q = absurd (f (sym q))
 
 module _ {box : Tables → Element → Result} {One : Element → Type 0} (either : (t : Tables) (e : Element) → Either box One t e) where
-  pub turns : (t : Tables) (e : Element) → Turns box (Bars One) t e
+  turn : (t : Tables) (e : Element) → Turns box (Bars One) t e
   unfolding refusedAnswer
-  turns t e =
+  turn t e =
       elim (either t e) [
         | is-full n q ↦ in-full q
         | is-one o p ↦ elim (yields t e) [
@@ -72,6 +72,10 @@ module _ {box : Tables → Element → Result} {One : Element → Type 0} (eithe
               (λ y. eqb-false _ 0 z (sym (ap (λ x. x .answer .code) (p ∙ q)) ∙ y)) (ap (λ x. x .tables) (p ∙ q))
         ]
       ]
+
+  -- on any tables
+  pub turns : Reaches box (Bars One) (λ t. t ≡ t)
+  turns = record { first = refl; next = λ t e g. refl; turn = λ t e g. turn t e }
 
   pub holds-either : HistoryHolds box
   holds-either = history-kept turns

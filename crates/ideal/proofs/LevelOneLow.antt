@@ -112,7 +112,7 @@ low-seen s t u n (protect i o m d) r = absurd (true≢false (failed 20 true _ r)
 low-seen s t u n (retrieve i o h) r = refl
 low-seen s t u n report r = refl
 low-seen s t u n (handOver p) r = low-or-none p (failed 21 _ _ (passed 5 _ _ r))
-low-seen s t u n (chain w i x v) r = refl
+low-seen s t u n (chain first v) r = refl
 low-seen s t u n (release i h) r = absurd (true≢false (failed 20 true _ r))
 
 accepted-passes : (t : Tables) (e : Element) (c : Call) (used : ℕ) → read (e .bytes) ≡ whole c used → levelOneOn t e .answer .code ≡ 0

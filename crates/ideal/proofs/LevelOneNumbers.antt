@@ -6,14 +6,14 @@ use mathlib.Core.List.{List, [], _∷_}
 use native.Mathlib.Nat.{add-zero}
 use lib.ListN.{getD}
 use lib.Dec.{eqb, ltb}
-use Rattle.record.specs.Call.{Call, create, exit, heapWrite, heapRead, sharedWrite, sharedRead, attest, check, protect, retrieve, report, handOver, chain, release}
+use Rattle.record.specs.Call.{Call, create, exit, heapWrite, heapRead, sharedWrite, sharedRead, attest, check, protect, retrieve, report, handOver, chain, release, firstIn}
 use Rattle.record.specs.Write.{filled}
 use Rattle.ideal.specs.State.{State, caller, any}
 use Rattle.ideal.specs.Step.{paired, full, firstHolding, idle, vacant, beyond, tests, refusal}
 use Rattle.ideal.specs.Tables.{Tables, boxRecord, tables, usedLog, stateOf}
 use Rattle.ideal.specs.Valid.{Valid}
 use Rattle.ideal.specs.Layouts.{Sound}
-use Rattle.ideal.specs.Refusals.{ownBytes, oneOf, callConditions, EachNumberBy}
+use Rattle.ideal.specs.Refusals.{ownBytes, oneOf, ofChain, callConditions, EachNumberBy}
 use Rattle.ideal.specs.LevelOne.{putAfter, isOther, loggedOther, levelOneTests, levelOneRefusal, levelOneOn, rowAfter, holdsOther, levelOneRows, levelOneConditions}
 use Rattle.lists.proofs.Bools.{by-cases, or-nil}
 use Rattle.ideal.proofs.FoundRows.{log-rows, pair-rows}
@@ -44,7 +44,7 @@ module _ (s : State) (back : stateOf (tables s) ≡ s) (valid : Valid s) where
   pub rows-first : (c : Call) → levelOneRefusal s c ≡ firstOf (levelOneRows (tables s) c)
   unfolding levelOneRefusal levelOneTests levelOneRows firstOf filled oneOf any
   rows-first (create p i) =
-      unfold putAfter tests firstHolding callConditions rowAfter idle vacant tables boxRecord in
+      unfold putAfter tests firstHolding callConditions ofChain firstIn rowAfter idle vacant tables boxRecord in
       rw (taken-at (s .identities) p, or-nil (ltb 15 p), or-nil (ltb 3 p), or-nil (not (eqb (getD (s .identities) p 0) 0)))
   rows-first exit = unfold refusal in none-put exit
   rows-first (heapWrite p o w) = unfold refusal in none-put (heapWrite p o w)
@@ -52,7 +52,7 @@ module _ (s : State) (back : stateOf (tables s) ≡ s) (valid : Valid s) where
   rows-first (sharedWrite o w) = unfold refusal in none-put (sharedWrite o w)
   rows-first (sharedRead o n) = unfold refusal in none-put (sharedRead o n)
   rows-first (attest o n) =
-      unfold putAfter tests firstHolding callConditions rowAfter idle beyond full loggedOther tables boxRecord in
+      unfold putAfter tests firstHolding callConditions ofChain firstIn rowAfter idle beyond full loggedOther tables boxRecord in
       let pair = pair-rows s back (caller s) (ownBytes (tables s) o n) in
       let other = other-rows (caller s) (ownBytes (tables s) o n) in
       rw (add-zero n, or-nil (ltb 256 (o + n)))
@@ -64,9 +64,9 @@ module _ (s : State) (back : stateOf (tables s) ≡ s) (valid : Valid s) where
   rows-first (retrieve i o h) = unfold firstHolding in refl
   rows-first report = unfold refusal in none-put report
   rows-first (handOver p) =
-      unfold putAfter tests firstHolding callConditions rowAfter vacant tables boxRecord in
+      unfold putAfter tests firstHolding callConditions ofChain firstIn rowAfter vacant tables boxRecord in
       rw (taken-at (s .identities) p, Bool·not-not (eqb (getD (s .identities) p 0) 0))
-  rows-first (chain w i x v) = unfold firstHolding in refl
+  rows-first (chain first v) = unfold firstHolding in refl
   rows-first (release i h) = unfold firstHolding in refl
 
 level-one-first : (t : Tables) (n : ℕ) → Sound t n → (c : Call) → levelOneRefusal (stateOf t) c ≡ firstOf (levelOneRows t c)

@@ -79,7 +79,7 @@ module _ (G : ℕ → Bool) {s t : State} (k : SameBut (held G) s t) (v : Valid 
   same-call x (retrieve i o h) u r = refl
   same-call x report u r = refl
   same-call x (handOver q) u r = refl
-  same-call x (chain l i y b) u r = refl
+  same-call x (chain first b) u r = refl
   same-call x (release i h) u r = refl
 
   same-reading : eqb (e .outputSize) 1024 ≡ true → (r : Reading) → read (e .bytes) ≡ r → barredReading s r ≡ barredReading t r
@@ -122,7 +122,7 @@ chain-barred s (whole (protect i o n d) u) h = absurd (false≢true h)
 chain-barred s (whole (retrieve i o g) u) h = absurd (false≢true h)
 chain-barred s (whole report u) h = absurd (false≢true h)
 chain-barred s (whole (handOver p) u) h = absurd (false≢true h)
-chain-barred s (whole (chain w i x v) u) h = refl
+chain-barred s (whole (chain first v) u) h = refl
 chain-barred s (whole (release i g) u) h = absurd (false≢true h)
 
 -- where none of its own is given to a chain, the box is not lent an output buffer of its size

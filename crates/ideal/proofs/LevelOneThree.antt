@@ -85,7 +85,7 @@ escrow-to s (protect i o n d) q = in-protect
 escrow-to s (retrieve i o h) q = in-retrieve
 escrow-to s report q = absurd (omega arith)
 escrow-to s (handOver p) q = let x = is-22 _ _ 20 q .0 in absurd (omega arith)
-escrow-to s (chain w i x v) q = in-chain
+escrow-to s (chain first v) q = in-chain
 escrow-to s (release i h) q = in-release
 
 -- ---- 22
@@ -116,7 +116,7 @@ high-to s (handOver p) q =
     let m = ltb-false 16 p (x .1) in
     let n = eqb-false p 16 (not-true _ (and-right (ltb 3 p) _ (x .2))) in
     in-hand-over (ltb-true 3 p (and-left (ltb 3 p) _ (x .2))) (omega arith)
-high-to s (chain w i x v) q = absurd (omega arith)
+high-to s (chain first v) q = absurd (omega arith)
 high-to s (release i h) q = absurd (omega arith)
 
 -- ---- 23
@@ -193,7 +193,7 @@ module _ (t : Tables) (size : ℕ) (h : Sound t size) where
   other-to (retrieve i o a) q = absurd (omega arith)
   other-to report q = absurd (omega arith)
   other-to (handOver p) q = let x = is-22 _ _ 22 q .0 in absurd (omega arith)
-  other-to (chain w i x v) q = absurd (omega arith)
+  other-to (chain first v) q = absurd (omega arith)
   other-to (release i a) q = absurd (omega arith)
 
   -- ---- the code

@@ -60,6 +60,7 @@ pub mod Befores
 pub mod FixedRuns
 pub mod Faked
 pub mod FakedSecret
+pub mod OneCallTells
 pub mod Steered
 pub mod Differing
 pub mod Exempted

@@ -5,21 +5,21 @@ use mathlib.Core.Bool.{Bool, true, false, not, _&&_}
 use mathlib.Core.List.{List, [], _∷_, _++_, append-nil}
 use lib.Dec.{eqb}
 use borrow.Author.Tests.{eqb-false, ne-eqb, not-true}
-use Rattle.record.specs.Call.{Call}
+use Rattle.record.specs.Call.{Call, firstIn}
 use Rattle.record.specs.Read.{Reading, refused, whole, read}
 use Rattle.record.specs.Write.{filled}
 use Rattle.ideal.specs.State.{State, any, every}
-use Rattle.ideal.specs.Step.{Link, refusal, refusedAnswer, refuse, accepted, settle, onReading, readingBy, stepOnBy, stepBy}
+use Rattle.ideal.specs.Step.{refusal, refusedAnswer, refuse, accepted, settle, onReading, readingBy, stepOnBy, stepBy}
 use Rattle.ideal.specs.Tables.{Tables, tables, stateOf}
 use Rattle.ideal.specs.Soundness.{sizesRight, sound}
 use Rattle.ideal.specs.Box.{Element, laid, unsound, callOn, boxBy}
 use Rattle.ideal.specs.Layouts.{Sound}
-use Rattle.ideal.specs.Refusals.{oneOf, readerConditions, chainConditions, callConditions, onCall, conditions, unread, was-read, numberAt, Refused, EachNumberBy, EachNumber, RefusalsAlterNothing, NeverFive, conditionsBy, onCallBy}
+use Rattle.ideal.specs.Refusals.{oneOf, readerConditions, callConditions, onCall, conditions, unread, was-read, numberAt, Refused, EachNumberBy, EachNumber, RefusalsAlterNothing, NeverFive, conditionsBy, onCallBy}
 use Rattle.lists.proofs.Bools.{by-cases, and-left, and-right, or-false-left, not-is}
 use Rattle.ideal.proofs.Laid.{valid-sound, state-tables, tables-state}
 use Rattle.ideal.proofs.Conditions.{firstOf, first-of, first-among}
 use Rattle.ideal.proofs.ReaderNumbers.{seen, numbered, read-seen}
-use Rattle.ideal.proofs.Links.{every-cond, chain-every}
+use Rattle.ideal.proofs.Links.{of-chain-every}
 use Rattle.ideal.proofs.CallNumbers.{call-first}
 
 -- what holds of the numbers of a call's conditions, of the rising ones and of those of a chain's links, holds of each
@@ -27,10 +27,7 @@ pub call-every : (p : ℕ → Bool) → every p (4 ∷ 6 ∷ 7 ∷ 8 ∷ 9 ∷ 1
     → every p (9 ∷ 18 ∷ 19 ∷ 20 ∷ []) ≡ true → (t : Tables) (c : Call) → every (λ x. p (x .0)) (callConditions t c) ≡ true
 unfolding every callConditions
 call-every p g h t c =
-    let f = filled c .fields in
-    let first : Link = record { way = f .place; identity = f .identity; number = f .number } in
-    let bs = filled c .bytes in
-    rw (every-cond (λ x. p (x .0)) (eqb (filled c .kind) 15) (chainConditions t 17 0 first bs) (chain-every p h t 17 0 first bs)) g
+    rw (of-chain-every p h t (firstIn c) (filled c .bytes)) g
 
 -- at these no bytes count as used
 abbrev pub readNumbers : List ℕ

@@ -188,7 +188,7 @@ module _ (s : State) (k : Valid s) where
       (ltb-false 256 _ (failed 10 _ _ (passed 9 _ _ (passed 8 _ _ (passed 3 _ _ r))))))
   leaves-is report r = unfold apply in refl
   leaves-is (handOver p) r = unfold apply tables boxRecord withPlacesIn in refl
-  leaves-is (chain w i x v) r = unfold apply in refl
+  leaves-is (chain first v) r = unfold apply in refl
   leaves-is (release i h) r = release-leaves i h (release-passed s i h k r)
 
   -- ---- what is answered
@@ -216,8 +216,8 @@ module _ (s : State) (k : Valid s) where
   counted report n q = counts ∙ the-some q
   counted (handOver p) n q = absurd (none-some q)
   counted (release i h) n q = absurd (none-some q)
-  counted (chain w i x v) n q =
-      chain-count s (state-tables s k) 16 (record { way = w; identity = i; number = x }) v ∙ the-some q
+  counted (chain first v) n q =
+      chain-count s (state-tables s k) 16 first v ∙ the-some q
 
   shows-is : (c : Call) → refusal s c ≡ 0 → shown s c ≡ shows (tables s) c
   unfolding shown shows refusal tests beyond
@@ -235,7 +235,7 @@ module _ (s : State) (k : Valid s) where
   shows-is (retrieve i o h) r = refl
   shows-is report r = refl
   shows-is (handOver p) r = refl
-  shows-is (chain w i x v) r = refl
+  shows-is (chain first v) r = refl
   shows-is (release i h) r = refl
 
 -- ---- the promise, of the definition

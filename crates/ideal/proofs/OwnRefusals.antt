@@ -33,7 +33,7 @@ barredWith s (protect i o n d) = 21
 barredWith s (retrieve i o h) = 21
 barredWith s report = 0
 barredWith s (handOver p) = then22 (ltb 16 p) (ltb 3 p && not (eqb p 16))
-barredWith s (chain w i x v) = 21
+barredWith s (chain first v) = 21
 barredWith s (release i h) = 21
 
 -- level one's own refusal, where a call has one, else the full box's
@@ -56,7 +56,7 @@ level-one s report = refl
 level-one s (handOver p) =
     by-cases (ltb 16 p) (λ h. rw h)
     (λ h. by-cases (ltb 3 p && not (eqb p 16)) (λ k. rw (h, k)) (λ k. rw (h, k)))
-level-one s (chain w i x v) = refl
+level-one s (chain first v) = refl
 level-one s (release i h) = refl
 
 -- it is one of the three, if any
@@ -79,7 +79,7 @@ none-or-barring s report = refl
 none-or-barring s (handOver p) =
     by-cases (ltb 16 p) (λ h. rw h)
     (λ h. by-cases (ltb 3 p && not (eqb p 16)) (λ k. rw (h, k)) (λ k. rw (h, k)))
-none-or-barring s (chain w i x v) = refl
+none-or-barring s (chain first v) = refl
 none-or-barring s (release i h) = refl
 
 pub barred-is : (s : State) (c : Call) → eqb (barredWith s c) 0 ≡ false → barring (barredWith s c) ≡ true

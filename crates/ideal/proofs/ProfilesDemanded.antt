@@ -1,21 +1,22 @@
 -- The demands, of one box that is given calls of both profiles; and that they fix it. Assumes nothing.
-use Prim.Native.Nat.{ℕ}
+use Prim.Native.Nat.{ℕ, suc}
 use mathlib.Core.Path.{_≡_, refl, sym, ap, _∙_}
 use mathlib.Core.Bool.{Bool, true, true≢false}
-use mathlib.Core.List.{List}
+use mathlib.Core.List.{List, [], _∷_}
+use native.Mathlib.Omega.{arith}
 use Rattle.record.specs.Call.{Call}
 use Rattle.record.specs.Read.{whole, read}
 use Rattle.ideal.specs.declared.Profile.{Profile}
 use Rattle.ideal.specs.declared.Profile.the-variants.{Full, LevelOne}
 use Rattle.ideal.specs.Tables.{Tables}
-use Rattle.ideal.specs.Box.{Element, boxBy, elementAt, tablesBefore}
+use Rattle.ideal.specs.Box.{Element, boxBy, elementAt, tablesFrom, answersFrom, tablesBefore}
 use Rattle.ideal.specs.Layouts.{Sound, StaysSound}
 use Rattle.ideal.specs.Refusals.{conditionsBy}
 use Rattle.ideal.specs.Secrecy.{AlikeAt, same, other-bytes, PremiseAt, ownChain}
 use Rattle.ideal.specs.Demands.{Demand1By, EachCallBy}
 use Rattle.ideal.specs.LevelOne.{boxOf}
 use Rattle.ideal.specs.LevelOneDemands.{noneExempt, ElseFull, NumbersOf}
-use Rattle.ideal.specs.BothProfiles.{bothOn, rowsIn, bothConditions, isFull, ownFullChain, BothDemands, BothFixed, ProfilesAre}
+use Rattle.ideal.specs.BothProfiles.{bothOn, rowsIn, bothConditions, isFull, ownFullChain, BothDemands, BothFixed, ProfilesAre, OneProfile}
 use Rattle.lists.proofs.Bools.{and-right}
 use Rattle.ideal.proofs.OneAnswer.{Whole, accepted-reads}
 use Rattle.ideal.proofs.Kept.{stays-sound}
@@ -140,7 +141,7 @@ both-demands =
             reports = reports-either either;
             retrieves = λ es k i o h used r. retrieve-kept (turns either) es k (free (r .0)) i o h used (r .1);
             releases = λ es k i h used r. release-kept (turns either) es k (free (r .0)) i h used (r .1);
-            chains = λ es k w i x v used r. chain-kept (turns either) es k (free (r .0)) w i x v used (r .1);
+            chains = λ es k first v used r. chain-kept (turns either) es k (free (r .0)) first v used (r .1);
             barred = λ es k c used r kind. barred-at either es k (r .0) c used (r .1) kind;
             attests = λ es k o n used r. yields-at either es k o n (r .0) used (r .1);
           };
@@ -155,3 +156,14 @@ both-fixed box first each t e =
 pub profiles-are : ProfilesAre
 unfolding boxBy
 profiles-are = record { full = refl; level-one = refl; blind = λ p q r t bytes size. refl }
+
+pub one-profile : OneProfile
+unfolding tablesFrom answersFrom elementAt
+one-profile p t [] h = record { tables = refl; answers = refl }
+one-profile p t (e ∷ es) h =
+    let is = ap (λ l. boxOf l t e) (h 0 (omega arith)) in
+    let rest = one-profile p (boxOf p t e .tables) es (λ k l. h (suc k) (omega arith)) in
+    record {
+      tables = ap (λ r. tablesFrom bothOn (r .tables) es) is ∙ rest .tables;
+      answers = (λ i. is i .answer ∷ answersFrom bothOn (is i .tables) es) ∙ ap (λ l. boxOf p t e .answer ∷ l) (rest .answers);
+    }

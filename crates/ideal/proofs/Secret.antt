@@ -8,13 +8,12 @@ use native.Mathlib.Omega.{arith}
 use lib.ListN.{length, getD, List·getD-eq-default}
 use lib.Dec.{eqb, ltb}
 use borrow.Author.Tests.{eqb-true, ltb-true, ltb-false, not-false}
-use Rattle.record.specs.declared.Handle.{Handle}
 use Rattle.record.specs.declared.Draw.{Draw}
-use Rattle.record.specs.Call.{Call, create, exit, heapWrite, heapRead, sharedWrite, sharedRead, attest, check, protect, retrieve, report, handOver, chain, release}
+use Rattle.record.specs.Call.{Link, Call, create, exit, heapWrite, heapRead, sharedWrite, sharedRead, attest, check, protect, retrieve, report, handOver, chain, release}
 use Rattle.record.specs.Read.{Reading, refused, whole, read}
 use Rattle.record.specs.Write.{filled}
 use Rattle.ideal.specs.State.{EscrowKey, Escrowed, State, fresh, identityAt, caller, part, ownPart}
-use Rattle.ideal.specs.Step.{Link, pairOf, found, absent, follow, linksFrom, idle, vacant, beyond, firstHolding, tests, refusal, protected, move, apply, effect, number, shown, Answer, Stepped as Outcome, refusedAnswer, refuse, accepted, settle, step, onReading, readingBy, stepOnBy, stepBy}
+use Rattle.ideal.specs.Step.{pairOf, found, absent, follow, linksFrom, idle, vacant, beyond, firstHolding, tests, refusal, protected, move, apply, effect, number, shown, Answer, Stepped as Outcome, refusedAnswer, refuse, accepted, settle, step, onReading, readingBy, stepOnBy, stepBy}
 use Rattle.ideal.specs.Tables.{Tables, escrowTable, entryOf, rowsFrom, rowsOf, boxRecord, tables, freshTables}
 use Rattle.ideal.specs.Box.{Element, laid, callOn}
 use Rattle.ideal.specs.Refusals.{ownBytes}
@@ -93,33 +92,29 @@ module _ (z : Secrets) {s t : State} (k : SameBut z s t) where
   vacant-create p i r = eqb-true (identityAt s p) 0 (not-false (vacant s p) (failed 6 _ _ (passed 5 (ltb 15 p) _ r)))
 
   -- a chain, where the running heap is open
-  same-follow : (w i x : ℕ) (v : List ℕ) → NoneTold z s t (chain w i x v) → z .heap (s .running) (caller s) ≡ false
-      → SameChain (s .log) (found s) (found t) 16 (record { way = w; identity = i; number = x }) v
-  same-follow w i x v a g =
-      same-chain (s .log) (found s) (found t) _ v
-      (λ left l rest c e.
-      let h : Handle = record { 0 = l .number } in
-      let f = same-found z k (l .identity) h in
-      by-cases (absent (found s (l .identity) h))
+  same-follow : (first : Link) (v : List ℕ) → NoneTold z s t (chain first v) → z .heap (s .running) (caller s) ≡ false
+      → SameChain (s .log) (found s) (found t) 16 first v
+  same-follow first v a g =
+      same-chain (s .log) (found s) (found t) first v
+      (λ left i h rest c.
+      let f = same-found z k i h in
+      by-cases (absent (found s i h))
       (λ none. same-absent _ _ f none)
-      (λ some.
-      subst (λ b. SameFound b (found s (l .identity) h) (found t (l .identity) h))
-      (a .follows g w i x v refl left l rest c e some) f))
-      16 _ v at-first
+      (λ some. subst (λ b. SameFound b (found s i h) (found t i h)) (a .follows g first v refl left i h rest c some) f))
+      16 first v at-first
 
-  same-chain-call : (w i x : ℕ) (v : List ℕ) → NoneTold z s t (chain w i x v) → SameCall z s t (chain w i x v) (chain w i x v)
+  same-chain-call : (first : Link) (v : List ℕ) → NoneTold z s t (chain first v) → SameCall z s t (chain first v) (chain first v)
   unfolding refusal tests firstHolding number shown move filled
-  same-chain-call w i x v a =
+  same-chain-call first v a =
       let secret = z .heap (s .running) (caller s) in
-      let k₁ : Link = record { way = w; identity = i; number = x } in
       record {
         refuses = λ o.
-            let first = same-follow w i x v a (open-chain secret o) .refuses
-            ∙ ap (λ l. firstHolding (follow l (found t) 16 k₁ v)) (k .log) in
-            λ j. cond (same-idle z k j) 4 (first j);
+            let same = same-follow first v a (open-chain secret o) .refuses
+            ∙ ap (λ l. firstHolding (follow l (found t) 16 first v)) (k .log) in
+            λ j. cond (same-idle z k j) 4 (same j);
         answers = λ o r.
-            same-follow w i x v a (open-chain secret o) .counts (passed 3 (idle s) (follow (s .log) (found s) 16 k₁ v) r)
-            ∙ ap (λ l. linksFrom l (found t) 16 k₁ v) (k .log);
+            same-follow first v a (open-chain secret o) .counts (passed 3 (idle s) (follow (s .log) (found s) 16 first v) r)
+            ∙ ap (λ l. linksFrom l (found t) 16 first v) (k .log);
         shows = λ g. refl;
         moves = λ r. same-nothing;
       }
@@ -157,7 +152,7 @@ module _ (z : Secrets) {s t : State} (k : SameBut z s t) where
   same-in-both (same-call report) a =
       plain refl (rw (k .identities, k .log, same-count (z .value) (k .escrow))) refl (λ r. same-nothing)
   same-in-both (same-call (handOver p)) a = plain (rw (same-vacant z k p)) refl refl (λ r. same-activate)
-  same-in-both (same-call (chain w i x v)) a = same-chain-call w i x v a
+  same-in-both (same-call (chain first v)) a = same-chain-call first v a
   same-in-both (same-call (release i h)) a =
       plain (rw (same-idle z k, same-found z k i h .absent)) refl refl (λ r. same-releases (same-caller z k))
   same-in-both (other-call p o v w g n) a =
@@ -197,8 +192,8 @@ still s n (protect i o m d) u e = absurd (false≢true e)
 still s n (retrieve i o h) u e = absurd (false≢true e)
 still s n report u e = absurd (false≢true e)
 still s n (handOver p) u e = absurd (false≢true e)
-still s zero (chain w i x v) u e = (refl, refl, refl)
-still s (suc n) (chain w i x v) u e = (refl, refl, refl)
+still s zero (chain first v) u e = (refl, refl, refl)
+still s (suc n) (chain first v) u e = (refl, refl, refl)
 still s n (release i h) u e = absurd (false≢true e)
 
 module _ (z : Secrets) {s t : State} (k : SameBut z s t) where
@@ -325,7 +320,7 @@ module _ (G : ℕ → Bool) {s t : State} (k : SameBut (held G) s t) (v : Valid 
             same-known o n g (protect-passed s i o n d v (rw q at r) .fits)
             (p .protects g i o n d u (y ∙ ap (λ z. whole z u) q) (and-other _ _ g out) (accepted-code s e c u v x y r));
         retrieves = λ g i o h q r. and-false (inside G i) _ g;
-        follows = λ g w i y b q left l rest come way some. and-false (inside G (l .identity)) _ g;
+        follows = λ g first b q left i h rest come some. and-false (inside G i) _ g;
       }
 
   both-alike : (f : Element) → AlikeAt G (tables s) e f → Both (held G) s (read (e .bytes)) (stepElement s e) (stepElement t f)

@@ -8,7 +8,7 @@ use native.Mathlib.Omega.{arith}
 use lib.ListN.{length, take}
 use Rattle.fnv.specs.declared.Tag.{Tag}
 use Rattle.record.specs.declared.Handle.{Handle}
-use Rattle.record.specs.Call.{Call, check, retrieve, chain, release}
+use Rattle.record.specs.Call.{Link, Call, check, retrieve, chain, release}
 use Rattle.record.specs.Read.{whole, cut, read}
 use Rattle.ideal.specs.State.{Move}
 use Rattle.ideal.specs.Tables.{Tables, freshTables}
@@ -43,7 +43,13 @@ pub data Turns (box : Tables → Element → Result) (Bars : Tables → Element 
   in-full : box t e ≡ callOn t e → Turns box Bars t e
   bars : Bars t e → (box t e .answer .code ≡ 0 → ⊥) → box t e .tables ≡ t → Turns box Bars t e
 
-module _ {box : Tables → Element → Result} {Bars : Tables → Element → Type 0} (turns : (t : Tables) (e : Element) → Turns box Bars t e) where
+-- on the tables that its runs reach
+pub record Reaches (box : Tables → Element → Result) (Bars : Tables → Element → Type 0) (Good : Tables → Type 0) : Type 0 where
+  pub first : Good freshTables
+  pub next : (t : Tables) (e : Element) → Good t → Good (box t e .tables)
+  pub turn : (t : Tables) (e : Element) → Good t → Turns box Bars t e
+
+module _ {box : Tables → Element → Result} {Bars : Tables → Element → Type 0} {Good : Tables → Type 0} (turns : Reaches box Bars Good) where
   -- f does on the full box what e does on this one
   data StandsFor (t : Tables) (e f : Element) : Type 0 where
     itself : e ≡ f → box t e ≡ callOn t e → StandsFor t e f
@@ -58,9 +64,9 @@ module _ {box : Tables → Element → Result} {Bars : Tables → Element → Ty
   chosen-stands (in-full q) = itself refl q
   chosen-stands (bars b f q) = unread-one refl b f q
 
-  unfoldable pub standIns : Tables → List Element → List Element
-  standIns t [] = []
-  standIns t (e ∷ es) = chosen (turns t e) ∷ standIns (box t e .tables) es
+  unfoldable pub standIns : (t : Tables) → Good t → List Element → List Element
+  standIns t g [] = []
+  standIns t g (e ∷ es) = chosen (turns .turn t e g) ∷ standIns (box t e .tables) (turns .next t e g) es
 
   -- ---- one element
 
@@ -76,66 +82,70 @@ module _ {box : Tables → Element → Result} {Bars : Tables → Element → Ty
 
   -- ---- a list from some tables on
 
-  tables-all : (t : Tables) (es : List Element) → tablesFrom callOn t (standIns t es) ≡ tablesFrom box t es
+  tables-all : (t : Tables) (g : Good t) (es : List Element) → tablesFrom callOn t (standIns t g es) ≡ tablesFrom box t es
   unfolding tablesFrom standIns
-  tables-all t [] = refl
-  tables-all t (e ∷ es) =
-      ap (λ x. tablesFrom callOn x (standIns (box t e .tables) es)) (tables-one (chosen-stands (turns t e)))
-      ∙ tables-all (box t e .tables) es
+  tables-all t g [] = refl
+  tables-all t g (e ∷ es) =
+      let n = turns .next t e g in
+      ap (λ x. tablesFrom callOn x (standIns (box t e .tables) n es)) (tables-one (chosen-stands (turns .turn t e g)))
+      ∙ tables-all (box t e .tables) n es
 
-  past-all : (t : Tables) (past : List Move) (es : List Element) → pastFrom callOn t past (standIns t es) ≡ pastFrom box t past es
+  past-all : (t : Tables) (g : Good t) (past : List Move) (es : List Element)
+      → pastFrom callOn t past (standIns t g es) ≡ pastFrom box t past es
   unfolding pastFrom standIns
-  past-all t past [] = refl
-  past-all t past (e ∷ es) =
-      let x = chosen-stands (turns t e) in
-      (λ i. pastFrom callOn (tables-one x i) (added-one past x i) (standIns (box t e .tables) es)) ∙ past-all (box t e .tables) _ es
+  past-all t g past [] = refl
+  past-all t g past (e ∷ es) =
+      let x = chosen-stands (turns .turn t e g) in
+      let n = turns .next t e g in
+      (λ i. pastFrom callOn (tables-one x i) (added-one past x i) (standIns (box t e .tables) n es)) ∙ past-all (box t e .tables) n _ es
 
-  take-all : (t : Tables) (es : List Element) (k : ℕ) → take k (standIns t es) ≡ standIns t (take k es)
+  take-all : (t : Tables) (g : Good t) (es : List Element) (k : ℕ) → take k (standIns t g es) ≡ standIns t g (take k es)
   unfolding standIns
-  take-all t es zero = refl
-  take-all t [] (suc k) = refl
-  take-all t (e ∷ es) (suc k) = ap (λ l. chosen (turns t e) ∷ l) (take-all (box t e .tables) es k)
+  take-all t g es zero = refl
+  take-all t g [] (suc k) = refl
+  take-all t g (e ∷ es) (suc k) = ap (λ l. chosen (turns .turn t e g) ∷ l) (take-all (box t e .tables) (turns .next t e g) es k)
 
-  length-all : (t : Tables) (es : List Element) → length (standIns t es) ≡ length es
+  length-all : (t : Tables) (g : Good t) (es : List Element) → length (standIns t g es) ≡ length es
   unfolding standIns
-  length-all t [] = refl
-  length-all t (e ∷ es) = ap suc (length-all (box t e .tables) es)
+  length-all t g [] = refl
+  length-all t g (e ∷ es) = ap suc (length-all (box t e .tables) (turns .next t e g) es)
 
   past-end : {t : Tables} {e : Element} → unread e ≡ e → Turns box Bars t e → StandsFor t e e
   past-end u (in-full q) = itself refl q
   past-end u (bars b f q) = unread-one (sym u) b f q
 
   -- past the end of both lists too
-  stands-at : (t : Tables) (es : List Element) (k : ℕ)
-      → StandsFor (tablesFrom box t (take k es)) (elementAt es k) (elementAt (standIns t es) k)
+  stands-at : (t : Tables) (g : Good t) (es : List Element) (k : ℕ)
+      → StandsFor (tablesFrom box t (take k es)) (elementAt es k) (elementAt (standIns t g es) k)
   unfolding tablesFrom standIns elementAt
-  stands-at t [] k = past-end refl (turns (tablesFrom box t (take k [])) (elementAt [] k))
-  stands-at t (e ∷ es) zero = chosen-stands (turns t e)
-  stands-at t (e ∷ es) (suc k) = stands-at (box t e .tables) es k
+  stands-at t g [] zero = past-end refl (turns .turn t (elementAt [] 0) g)
+  stands-at t g [] (suc k) = past-end refl (turns .turn t (elementAt [] k) g)
+  stands-at t g (e ∷ es) zero = chosen-stands (turns .turn t e g)
+  stands-at t g (e ∷ es) (suc k) = stands-at (box t e .tables) (turns .next t e g) es k
 
   -- ---- a run from a fresh box
 
   module _ (es : List Element) where
     -- the run of the full box
     abbrev pub fs : List Element
-    fs = standIns freshTables es
+    fs = standIns freshTables (turns .first) es
 
     tables-after : tablesAfter callOn fs ≡ tablesAfter box es
     unfolding tablesAfter
-    tables-after = tables-all freshTables es
+    tables-after = tables-all freshTables (turns .first) es
 
     past-of : pastOf callOn fs ≡ pastOf box es
     unfolding pastOf
-    past-of = past-all freshTables [] es
+    past-of = past-all freshTables (turns .first) [] es
 
     module _ (k : ℕ) where
       pub tables-before : tablesBefore callOn fs k ≡ tablesBefore box es k
       unfolding tablesBefore tablesAfter
-      tables-before = ap (tablesFrom callOn freshTables) (take-all freshTables es k) ∙ tables-all freshTables (take k es)
+      tables-before = ap (tablesFrom callOn freshTables) (take-all freshTables (turns .first) es k) ∙ tables-all freshTables (turns .first) (take k es)
 
       past-before : pastOf callOn (take k fs) ≡ pastOf box (take k es)
       unfolding pastOf
-      past-before = ap (pastFrom callOn freshTables []) (take-all freshTables es k) ∙ past-all freshTables [] (take k es)
+      past-before = ap (pastFrom callOn freshTables []) (take-all freshTables (turns .first) es k) ∙ past-all freshTables (turns .first) [] (take k es)
 
       -- the call at this index is the same in both runs
       record Agree : Type 0 where
@@ -151,7 +161,7 @@ module _ {box : Tables → Element → Result} {Bars : Tables → Element → Ty
       at-index : AtIndex
       unfolding answerAt tablesBefore tablesAfter
       at-index =
-          elim (stands-at freshTables es k) [
+          elim (stands-at freshTables (turns .first) es k) [
             | itself q r ↦ same
                 (record {
                   element = sym q;
@@ -162,7 +172,7 @@ module _ {box : Tables → Element → Result} {Bars : Tables → Element → Ty
 
       output-same : elementAt fs k .outputSize ≡ elementAt es k .outputSize
       output-same =
-          elim (stands-at freshTables es k) [
+          elim (stands-at freshTables (turns .first) es k) [
             | itself q r ↦ ap (λ x. x .outputSize) (sym q)
             | unread-one q b f r ↦ ap (λ x. x .outputSize) q
           ]
@@ -245,12 +255,12 @@ module _ {box : Tables → Element → Result} {Bars : Tables → Element → Ty
       record {
         heap-read = λ es k p o n used l x.
             shows-here es k p o n (x .1)
-            (reports .heap-read (fs es) k p o n used (omega (arith, length-all freshTables es)) (accepts-in-full es k _ used x));
+            (reports .heap-read (fs es) k p o n used (omega (arith, length-all freshTables (turns .first) es)) (accepts-in-full es k _ used x));
         shared-read = λ es k o n used l x.
             shows-here es k 16 o n (x .1)
-            (reports .shared-read (fs es) k o n used (omega (arith, length-all freshTables es)) (accepts-in-full es k _ used x));
+            (reports .shared-read (fs es) k o n used (omega (arith, length-all freshTables (turns .first) es)) (accepts-in-full es k _ used x));
         report = λ es k used l x.
-            let r = reports .report (fs es) k used (omega (arith, length-all freshTables es)) (accepts-in-full es k _ used x) in
+            let r = reports .report (fs es) k used (omega (arith, length-all freshTables (turns .first) es)) (accepts-in-full es k _ used x) in
             ap (λ a. a .number) (sym (agree-accepted es k (x .1) .answer)) ∙ r
             ∙ (λ i.
             ones 16 (tables-before es k i .box .taken) + 256 * length (pairs (past-before es k i))
@@ -311,10 +321,10 @@ module _ {box : Tables → Element → Result} {Bars : Tables → Element → Ty
           not-there = absent i h (c .not-there);
         }
 
-    pub chain-kept : (w i x : ℕ) (v : List ℕ) (used : ℕ) → read (elementAt es k .bytes) ≡ whole (chain w i x v) used
-        → ChainAt box es k (record { way = w; identity = i; number = x }) v
-    chain-kept w i x v used r n =
-        let c = chain-is-accurate (fs es) k w i x v used (read-there es k here r) n in
+    pub chain-kept : (first : Link) (v : List ℕ) (used : ℕ) → read (elementAt es k .bytes) ≡ whole (chain first v) used
+        → ChainAt box es k first v
+    chain-kept first v used r n =
+        let c = chain-is-accurate (fs es) k first v used (read-there es k here r) n in
         let size = sized es k here in
         let run = runs es k here in (
           λ y. let z = c .0 (says es k here n .1 y) in (size .0 (z .0), run .0 (z .1), custody-too past (z .2)),

@@ -11,9 +11,9 @@ use lib.Dec.{eqb}
 use borrow.Author.Tests.{eqb-true, eqb-false}
 use Rattle.record.specs.declared.Handle.{Handle}
 use Rattle.record.specs.declared.Draw.{Draw}
-use Rattle.record.specs.Call.{Call, heapWrite, attest, protect, retrieve, chain}
+use Rattle.record.specs.Call.{Link, escrowedLink, Call, heapWrite, attest, protect, retrieve, chain}
 use Rattle.ideal.specs.State.{EscrowKey, Logged, Escrowed, State, Move, nothing, takes, activates, empties, writes, shares, logs, escrows, releases, cleared, identityAt, heapAt, caller, part, ownPart}
-use Rattle.ideal.specs.Step.{Link, found, absent, idle, vacant, refusal, withPair, protected, withPlaces, withCommon, apply}
+use Rattle.ideal.specs.Step.{found, absent, idle, vacant, refusal, withPair, protected, withPlaces, withCommon, apply}
 use Rattle.lists.proofs.Bools.{by-cases}
 use Rattle.ideal.proofs.Following.{Comes}
 use Rattle.ideal.proofs.TwoEscrows.{SameEntry, SameEscrow, SameFound, same-escrow, same-more, same-release, same-find}
@@ -82,11 +82,9 @@ pub record NoneTold (z : Secrets) (s t : State) (c : Call) : Type 0 where
       → z .value (protected s i o n d .key) ≡ false → refusal s c ≡ 0 → ownPart s o n ≡ ownPart t o n
   pub retrieves : z .heap (s .running) (caller s) ≡ false → (i o : ℕ) (h : Handle) → c ≡ retrieve i o h → refusal s c ≡ 0
       → z .value (record { source = i; recipient = caller s; handle = h; mark = 0 }) ≡ false
-  pub follows : z .heap (s .running) (caller s) ≡ false → (w i x : ℕ) (v : List ℕ) → c ≡ chain w i x v
-      → (left : ℕ) (l : Link) (rest : List ℕ)
-      → Comes (s .log) (found s) (record { way = w; identity = i; number = x }) v (suc left) l rest → l .way ≡ 3
-      → absent (found s (l .identity) (record { 0 = l .number })) ≡ false
-      → z .value (record { source = l .identity; recipient = caller s; handle = record { 0 = l .number }; mark = 0 }) ≡ false
+  pub follows : z .heap (s .running) (caller s) ≡ false → (first : Link) (v : List ℕ) → c ≡ chain first v
+      → (left i : ℕ) (h : Handle) (rest : List ℕ) → Comes (s .log) (found s) first v (suc left) (escrowedLink i h) rest
+      → absent (found s i h) ≡ false → z .value (record { source = i; recipient = caller s; handle = h; mark = 0 }) ≡ false
 
 module _ (z : Secrets) {s t : State} (k : SameBut z s t) where
   -- ---- what both states share

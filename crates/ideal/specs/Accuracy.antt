@@ -1,5 +1,5 @@
 -- Demand 2: what a check, a retrieve, a release and a chain say about the calls since a fresh box, on the host's tables.
-use Prim.Native.Nat.{ℕ, zero, suc, _+_, _*_, _-_, _≤_, _<_}
+use Prim.Native.Nat.{ℕ, zero, suc, _+_, _*_, _-_, _^_, _≤_, _<_}
 use mathlib.Core.Path.{_≡_}
 use mathlib.Core.Logic.{_↔_}
 use mathlib.Core.Bool.{Bool, true, false}
@@ -10,11 +10,11 @@ use lib.Dec.{eqb}
 use Rattle.fnv.specs.declared.Tag.{Tag}
 use Rattle.record.specs.declared.Handle.{Handle}
 use Rattle.record.specs.declared.Draw.{Draw}
-use Rattle.record.specs.Call.{attest, check, protect, retrieve, chain, release}
+use Rattle.record.specs.Call.{Link, loggedLink, escrowedLink, strayLink, wayOf, identityOf, numberOf, attest, check, protect, retrieve, chain, release}
 use Rattle.record.specs.Read.{whole, read, fromLittle}
 use Rattle.ideal.specs.State.{part, any}
-use Rattle.ideal.specs.Step.{handleOf, next, Link}
-use Rattle.ideal.specs.Tables.{Tables, usedEscrow}
+use Rattle.ideal.specs.Step.{handleOf, next}
+use Rattle.ideal.specs.Tables.{Tables, heapStart, usedEscrow}
 use Rattle.ideal.specs.Box.{Element, Result, elementAt, tablesBefore, answerAt}
 use Rattle.ideal.specs.Layouts.{Sound}
 use Rattle.ideal.specs.Refusals.{callerIn, ownBytes}
@@ -37,7 +37,7 @@ unfoldable pub withOwnBytes : Tables → ℕ → List ℕ → Tables
 withOwnBytes t offset v =
     record {
       box = t .box;
-      heaps = sets (t .heaps) (256 * t .box .running + offset) v;
+      heaps = sets (t .heaps) (heapStart (t .box .running) + offset) v;
       shared = t .shared;
       logRows = t .logRows;
       logValues = t .logValues;
@@ -54,24 +54,25 @@ pub record LinkValue : Type 0 where
 
 -- stands where a list has no such link
 unfoldable pub noLink : LinkValue
-noLink = record { link = record { way = 0; identity = 0; number = 0 }; value = [] }
+noLink = record { link = strayLink 0 0 0; value = [] }
 
 unfoldable pub linkAt : List LinkValue → ℕ → LinkValue
 linkAt ls j = getD ls j noLink
 
 -- the head of a value names the next link: its way, its identity in 8 bytes, its tag or handle in 8 bytes
 pub record Names (v : List ℕ) (k : Link) : Type 0 where
-  pub way : getD v 0 0 ≡ k .way
+  pub way : getD v 0 0 ≡ wayOf k
   pub long : 17 ≤ length v
-  pub identity : fromLittle (part v 1 8) ≡ k .identity
-  pub number : fromLittle (part v 9 8) ≡ k .number
+  pub identity : fromLittle (part v 1 8) ≡ identityOf k
+  pub number : fromLittle (part v 9 8) ≡ numberOf k
 
 -- these chain bytes are the values of the logged links, in order, each after its count of 2 bytes, and nothing else
 pub data ChainBytes : List LinkValue → List ℕ → Type 0 where
   no-links : ChainBytes [] []
-  logged-link : {h : LinkValue} {hs : List LinkValue} {bs : List ℕ} (count : List ℕ) → h .link .way ≡ 2 → length count ≡ 2
-      → fromLittle count ≡ length (h .value) → ChainBytes hs bs → ChainBytes (h ∷ hs) (count ++ (h .value ++ bs))
-  escrowed-link : {h : LinkValue} {hs : List LinkValue} {bs : List ℕ} → h .link .way ≡ 3 → ChainBytes hs bs → ChainBytes (h ∷ hs) bs
+  logged-link : {h : LinkValue} {hs : List LinkValue} {bs : List ℕ} {i : ℕ} {g : Tag} (count : List ℕ) → h .link ≡ loggedLink i g
+      → length count ≡ 2 → fromLittle count ≡ length (h .value) → ChainBytes hs bs → ChainBytes (h ∷ hs) (count ++ (h .value ++ bs))
+  escrowed-link : {h : LinkValue} {hs : List LinkValue} {bs : List ℕ} {i : ℕ} {g : Handle} → h .link ≡ escrowedLink i g
+      → ChainBytes hs bs → ChainBytes (h ∷ hs) bs
 
 module _ (box : Tables → Element → Result) (es : List Element) where
   -- at this index the program i logs the bytes v and gets the tag
@@ -158,8 +159,8 @@ module _ (box : Tables → Element → Result) (es : List Element) where
   -- a link's value was logged before k by that identity under that tag, or escrowed by it for the program that runs at k
   -- under that handle and not released since
   pub data Vouched (k : ℕ) (h : LinkValue) : Type 0 where
-    was-logged : h .link .way ≡ 2 → Earlier (LogsAt (h .link .identity) (h .value) (record { 0 = h .link .number })) k → Vouched k h
-    was-escrowed : h .link .way ≡ 3 → HeldBefore k (h .link .identity) (record { 0 = h .link .number }) (h .value) → Vouched k h
+    was-logged : {i : ℕ} {tag : Tag} → h .link ≡ loggedLink i tag → Earlier (LogsAt i (h .value) tag) k → Vouched k h
+    was-escrowed : {i : ℕ} {handle : Handle} → h .link ≡ escrowedLink i handle → HeldBefore k i handle (h .value) → Vouched k h
 
   -- a chain of n links, the first of which is so named, that ends, with these chain bytes
   pub record Custody (k : ℕ) (first : Link) (chainBytes : List ℕ) (n : ℕ) : Type 0 where
@@ -196,6 +197,8 @@ pub record FirstFree (t : Tables) (size draw : ℕ) (handle : Handle) : Type 0 w
   pub passed : ℕ
   pub few : passed ≤ 64
   pub is : handle ≡ candidate size draw passed
+  -- its number a second time
+  pub number : handle .0 ≡ size * 2 ^ 48 + iterate next passed draw
   pub free : handleUsed t handle ≡ false
   pub used : (k : ℕ) → k < passed → handleUsed t (candidate size draw k) ≡ true
 
@@ -219,9 +222,8 @@ module _ (box : Tables → Element → Result) where
       → read (elementAt es k .bytes) ≡ whole (release source handle) used → ReleaseAt box es k source handle
 
   abbrev pub ChainIsAccurate : Type 0
-  ChainIsAccurate = (es : List Element) (k way identity number : ℕ) (v : List ℕ) (used : ℕ)
-      → read (elementAt es k .bytes) ≡ whole (chain way identity number v) used
-      → ChainAt box es k (record { way = way; identity = identity; number = number }) v
+  ChainIsAccurate = (es : List Element) (k : ℕ) (first : Link) (v : List ℕ) (used : ℕ)
+      → read (elementAt es k .bytes) ≡ whole (chain first v) used → ChainAt box es k first v
 
   -- no handle is given twice, though its value be released
   abbrev pub HandleOnce : Type 0

@@ -28,7 +28,7 @@ plainNumber t (protect i o n d) = none
 plainNumber t (retrieve i o h) = none
 plainNumber t report = none
 plainNumber t (handOver p) = some 0
-plainNumber t (chain w i x v) = none
+plainNumber t (chain first v) = none
 plainNumber t (release i h) = some 0
 
 pub record Answered (t : Tables) (c : Call) (size : ℕ) (a : Answer) : Type 0 where

@@ -1,18 +1,19 @@
 -- One box, both profiles (document 02, P5): a host may give a box calls of the full profile and of level one in any order, and
 -- an element has its call's profile. What is demanded of that box, and that no other box meets it.
-use Prim.Native.Nat.{ℕ, _+_, _≤_}
+use Prim.Native.Nat.{ℕ, _+_, _≤_, _<_}
 use mathlib.Core.Path.{_≡_}
 use mathlib.Core.Logic.{_↔_}
 use mathlib.Core.Bool.{Bool, true, false, _&&_}
 use mathlib.Core.List.{List, [], _∷_}
+use lib.ListN.{length}
 use Rattle.record.specs.declared.Handle.{Handle}
-use Rattle.record.specs.Call.{Call, attest, retrieve, chain, release}
+use Rattle.record.specs.Call.{Link, Call, attest, retrieve, chain, release}
 use Rattle.record.specs.Read.{whole, read}
 use Rattle.record.specs.Write.{filled}
 use Rattle.ideal.specs.declared.Profile.{Profile}
 use Rattle.ideal.specs.declared.Profile.the-variants.{Full, LevelOne}
 use Rattle.ideal.specs.Tables.{Tables}
-use Rattle.ideal.specs.Box.{Element, Result, callOn, elementAt, tablesBefore, answerAt}
+use Rattle.ideal.specs.Box.{Element, Result, callOn, elementAt, tablesFrom, answersFrom, tablesBefore, answerAt}
 use Rattle.ideal.specs.Layouts.{Sound, StaysSound}
 use Rattle.ideal.specs.Refusals.{callerIn, ownBytes, oneOf, callConditions, conditionsBy}
 use Rattle.ideal.specs.History.{HistoryHolds, Reports}
@@ -61,9 +62,8 @@ module _ (box : Tables → Element → Result) where
         → ReadIn Full es k (retrieve source offset handle) used → RetrieveAt box es k source offset handle
     pub releases : (es : List Element) (k source : ℕ) (handle : Handle) (used : ℕ)
         → ReadIn Full es k (release source handle) used → ReleaseAt box es k source handle
-    pub chains : (es : List Element) (k way identity number : ℕ) (v : List ℕ) (used : ℕ)
-        → ReadIn Full es k (chain way identity number v) used
-        → ChainAt box es k (record { way = way; identity = identity; number = number }) v
+    pub chains : (es : List Element) (k : ℕ) (first : Link) (v : List ℕ) (used : ℕ)
+        → ReadIn Full es k (chain first v) used → ChainAt box es k first v
     -- one of level one yields to 21, whatever was protected or logged before it, and to 23
     pub barred : (es : List Element) (k : ℕ) (c : Call) (used : ℕ) → ReadIn LevelOne es k c used
         → oneOf (11 ∷ 12 ∷ 15 ∷ 16 ∷ []) (filled c .kind) ≡ true → (answerAt box es k .code ≡ 21) ↔ Sized box es k
@@ -96,3 +96,11 @@ pub record ProfilesAre : Type 0 where
   pub level-one : boxOf LevelOne ≡ levelOneOn
   pub blind : (p q r : Profile) (t : Tables) (bytes : List ℕ) (size : ℕ)
       → boxOf p t (record { bytes = bytes; outputSize = size; profile = q }) ≡ boxOf p t (record { bytes = bytes; outputSize = size; profile = r })
+
+-- where every call of a list is of one profile, its run from any tables is that profile's box's
+pub record RunsIn (p : Profile) (t : Tables) (es : List Element) : Type 0 where
+  pub tables : tablesFrom bothOn t es ≡ tablesFrom (boxOf p) t es
+  pub answers : answersFrom bothOn t es ≡ answersFrom (boxOf p) t es
+
+abbrev pub OneProfile : Type 0
+OneProfile = (p : Profile) (t : Tables) (es : List Element) → ((k : ℕ) → k < length es → elementAt es k .profile ≡ p) → RunsIn p t es

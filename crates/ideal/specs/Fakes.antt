@@ -1,24 +1,25 @@
 -- The fakes that document 01 names under "What the buyer won't accept". Demand 2 shuts out each, though each satisfies
 -- secrecy; and demand 3 shuts out a definition in which a heap byte steers the handle, and those in which a number tells one
 -- where it is compared.
-use Prim.Native.Nat.{ℕ, _+_, _*_, _%_}
+use Prim.Native.Nat.{ℕ, _+_, _/_, _%_, _^_}
 use mathlib.Core.Path.{_≡_}
 use mathlib.Core.Bool.{Bool, true, not, cond, _&&_}
 use mathlib.Core.List.{[], reverse}
-use lib.ListN.{getD, set}
+use lib.ListN.{getD, set, replicate}
 use lib.Dec.{eqb, ltb}
 use Rattle.record.specs.Read.{Reading, refused, whole, read}
 use Rattle.record.specs.Write.{filled}
+use Rattle.ideal.specs.State.{Escrowed, any}
 use Rattle.ideal.specs.Step.{withCommon}
-use Rattle.ideal.specs.Tables.{Tables, tables, stateOf}
+use Rattle.ideal.specs.Tables.{Tables, heapStart, tables, stateOf}
 use Rattle.ideal.specs.Box.{Element, Result, callOn}
 use Rattle.ideal.specs.Refusals.{callerIn, EachNumber}
 use Rattle.ideal.specs.Answers.{AcceptedAnswers}
 use Rattle.ideal.specs.History.{HistoryHolds, Reports}
 use Rattle.ideal.specs.Accuracy.{RetrieveIsAccurate}
-use Rattle.ideal.specs.OneCall.{AcceptedCalls}
+use Rattle.ideal.specs.OneCall.{withShared, AcceptedCalls}
 use Rattle.ideal.specs.Secrecy.{Secrecy}
-use Rattle.ideal.specs.Demands.{Demand2}
+use Rattle.ideal.specs.Demands.{SinceFresh, Demand2}
 
 -- the kind of the record that is read, and its length; 0 where none is read whole
 unfoldable pub kindIn : Reading → ℕ
@@ -138,12 +139,30 @@ pub record SatisfySecrecy : Type 0 where
   pub says-escrow-full : Secrecy saysEscrowFull
   pub turns-log-round : Secrecy turnsLogRound
 
+-- ---- wrong where no run comes
+
+-- the handle carries a length that no value has: only a spent row's may, and only where a host has made it
+unfoldable pub carriesTooMuch : Escrowed → Bool
+carriesTooMuch e = ltb 256 (e .key .handle .0 / 2 ^ 48)
+
+-- with such a row a report clears shared memory
+abbrev pub clearsShared : Tables → Element → Result
+clearsShared =
+    faked (λ t e. ofKind 13 t e && any carriesTooMuch (stateOf t .escrow))
+    (λ t e. record { tables = withShared t (replicate 1024 0); answer = callOn t e .answer })
+
+-- all that is said of runs from a fresh box holds of it, and what is said of one call on any tables shuts it out
+pub record OnlyOneCallTells : Type 0 where
+  pub since-fresh : SinceFresh clearsShared
+  pub falls : AcceptedCalls clearsShared → ⊥
+  pub shut-out : Demand2 clearsShared → ⊥
+
 -- ---- a heap byte steers the handle
 
 -- the lowest byte of a protect's draw, which stands at 14 of its record, is raised by the first of the running heap
 unfoldable pub steered : Tables → Element → Element
 steered t e =
-    let raised = (getD (e .bytes) 14 0 + getD (t .heaps) (256 * t .box .running) 0) % 256 in
+    let raised = (getD (e .bytes) 14 0 + getD (t .heaps) (heapStart (t .box .running)) 0) % 256 in
     cond (eqb (kindIn (read (e .bytes))) 11) (record { bytes = set (e .bytes) 14 raised; outputSize = e .outputSize; profile = e .profile }) e
 
 unfoldable pub byteSteers : Tables → Element → Result

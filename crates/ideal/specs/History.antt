@@ -12,7 +12,7 @@ use Rattle.ideal.specs.declared.LogRow.{LogRow}
 use Rattle.ideal.specs.declared.EscrowRow.{EscrowRow}
 use Rattle.ideal.specs.State.{Logged, Escrowed, Move, nothing, takes, activates, empties, writes, shares, logs, escrows, releases, part, any, sameBytes, bytesUsed}
 use Rattle.ideal.specs.Step.{Answer}
-use Rattle.ideal.specs.Tables.{Tables, logTable, escrowTable, freshTables}
+use Rattle.ideal.specs.Tables.{Tables, heapStart, logTable, escrowTable, freshTables}
 use Rattle.ideal.specs.Layouts.{Sound}
 use Rattle.ideal.specs.Box.{Element, Result, tablesAfter, elementAt, tablesBefore, answerAt}
 use Rattle.ideal.specs.Refusals.{callerIn, ownBytes}
@@ -38,7 +38,7 @@ moveSeen t u n (protect i o m d) =
 moveSeen t u n (retrieve i o h) = writes (t .box .running) o (ownBytes u o n)
 moveSeen t u n report = nothing
 moveSeen t u n (handOver p) = activates p
-moveSeen t u n (chain w i x v) = nothing
+moveSeen t u n (chain first v) = nothing
 moveSeen t u n (release i h) = releases i (callerIn t) h
 
 unfoldable pub added : Tables → Result → Reading → List Move → List Move
@@ -181,7 +181,7 @@ pub record AsThePast (t : Tables) (past : List Move) : Type 0 where
   pub identity : (p : ℕ) → p < 16 → getD (t .box .identities) p 0 ≡ holder past p
   pub taken : (p : ℕ) → p < 16 → stands (t .box .taken) p ≡ not (eqb (holder past p) 0)
   pub services : ones 16 (t .box .taken) ≡ occupied (holder past) 16
-  pub heap : (p x : ℕ) → p < 16 → x < 256 → getD (t .heaps) (256 * p + x) 0 ≡ byteAt past p x
+  pub heap : (p x : ℕ) → p < 16 → x < 256 → getD (t .heaps) (heapStart p + x) 0 ≡ byteAt past p x
   pub shared : (x : ℕ) → x < 1024 → getD (t .shared) x 0 ≡ byteAt past 16 x
   pub logRows : t .box .log .rows ≡ length (pairs past)
   pub logBytes : t .box .log .bytes ≡ bytesUsed (pairs past)

@@ -46,7 +46,7 @@ levelOneTests s (protect i o n d) = (21, true) then tests s (protect i o n d)
 levelOneTests s (retrieve i o h) = (21, true) then tests s (retrieve i o h)
 levelOneTests s report = tests s report
 levelOneTests s (handOver p) = putAfter 6 (22, ltb 3 p && not (eqb p 16)) (tests s (handOver p))
-levelOneTests s (chain w i x v) = (21, true) then tests s (chain w i x v)
+levelOneTests s (chain first v) = (21, true) then tests s (chain first v)
 levelOneTests s (release i h) = (21, true) then tests s (release i h)
 
 unfoldable pub levelOneRefusal : State → Call → ℕ

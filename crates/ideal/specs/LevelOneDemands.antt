@@ -9,7 +9,7 @@ use lib.ListN.{getD}
 use Rattle.fnv.specs.declared.Tag.{Tag}
 use Rattle.record.specs.declared.Handle.{Handle}
 use Rattle.record.specs.declared.Draw.{Draw}
-use Rattle.record.specs.Call.{Call, create, attest, protect, retrieve, handOver, chain, release}
+use Rattle.record.specs.Call.{Link, Call, create, attest, protect, retrieve, handOver, chain, release}
 use Rattle.record.specs.Read.{whole, read}
 use Rattle.record.specs.Write.{filled}
 use Rattle.ideal.specs.Tables.{Tables, logTable}
@@ -38,7 +38,7 @@ barring code = oneOf (21 ∷ 22 ∷ 23 ∷ []) code
 pub data UsesEscrow : Call → Type 0 where
   in-protect : {i o n : ℕ} {d : Draw} → UsesEscrow (protect i o n d)
   in-retrieve : {i o : ℕ} {h : Handle} → UsesEscrow (retrieve i o h)
-  in-chain : {w i x : ℕ} {v : List ℕ} → UsesEscrow (chain w i x v)
+  in-chain : {first : Link} {v : List ℕ} → UsesEscrow (chain first v)
   in-release : {i : ℕ} {h : Handle} → UsesEscrow (release i h)
 
 -- 22: a place of 4 to 15; beyond it is 6, or hand over's 16

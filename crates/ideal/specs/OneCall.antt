@@ -6,14 +6,13 @@ use mathlib.Core.List.{List, [], _∷_, _++_, map}
 use mathlib.Core.Option.{Option, none, some}
 use lib.ListN.{length, getD, take, drop, set, replicate}
 use lib.Seq.{sets}
-use Rattle.record.specs.Call.{Call, create, exit, heapWrite, heapRead, sharedWrite, sharedRead, attest, check, protect, retrieve, report, handOver, chain, release}
+use Rattle.record.specs.Call.{Link, Call, create, exit, heapWrite, heapRead, sharedWrite, sharedRead, attest, check, protect, retrieve, report, handOver, chain, release}
 use Rattle.record.specs.Read.{whole, read}
 use Rattle.ideal.specs.declared.Used.{Used}
 use Rattle.ideal.specs.declared.LogRow.{LogRow}
 use Rattle.ideal.specs.declared.EscrowRow.{EscrowRow}
 use Rattle.ideal.specs.State.{cleared, part, any, position}
-use Rattle.ideal.specs.Step.{Link}
-use Rattle.ideal.specs.Tables.{Tables, escrowTable, usedLog, usedEscrow}
+use Rattle.ideal.specs.Tables.{Tables, heapStart, escrowTable, usedLog, usedEscrow}
 use Rattle.ideal.specs.Box.{Element, Result}
 use Rattle.ideal.specs.Refusals.{callerIn, ownBytes, isRow, holdsPair, lengthIn, bytesIn, rowFor, isLogRow, valueAt, leftAt, leadsOn, namedIn}
 use Rattle.ideal.specs.History.{ones}
@@ -165,7 +164,7 @@ leaves t n (create p i) =
     withPlacesIn t (t .box .taken + 2 ^ p) (t .box .running) (set (t .box .identities) p i) (t .heaps)
 leaves t n exit =
     let p = t .box .running in
-    withPlacesIn t (t .box .taken - 2 ^ p) 16 (set (t .box .identities) p 0) (sets (t .heaps) (256 * p) cleared)
+    withPlacesIn t (t .box .taken - 2 ^ p) 16 (set (t .box .identities) p 0) (sets (t .heaps) (heapStart p) cleared)
 leaves t n (heapWrite p o v) = withOwnBytes t o v
 leaves t n (heapRead p o m) = t
 leaves t n (sharedWrite o v) = withShared t (sets (t .shared) o v)
@@ -178,7 +177,7 @@ leaves t n (protect i o m d) = withEscrowRow t i n (ownBytes t o m)
 leaves t n (retrieve i o h) = withOwnBytes t o (bytesIn (t .escrowValues) (rowFor t i h))
 leaves t n report = t
 leaves t n (handOver p) = withPlacesIn t (t .box .taken) p (t .box .identities) (t .heaps)
-leaves t n (chain w i x v) = t
+leaves t n (chain first v) = t
 leaves t n (release i h) = withReleased t (position (isRow h i (callerIn t)) (usedEscrow t))
 
 -- the numbers that the rows and the counts say; the others are in specs/Answers.antt, and a protect's is the first free handle
@@ -195,7 +194,7 @@ countedNumber t (protect i o m d) = none
 countedNumber t (retrieve i o h) = some (lengthIn (rowFor t i h))
 countedNumber t report = some (ones 16 (t .box .taken) + 256 * t .box .log .rows + 65536 * t .box .escrow .rows)
 countedNumber t (handOver p) = none
-countedNumber t (chain w i x v) = some (linkCount t 16 (record { way = w; identity = i; number = x }) v)
+countedNumber t (chain first v) = some (linkCount t 16 first v)
 countedNumber t (release i h) = none
 
 unfoldable pub shows : Tables → Call → List ℕ
@@ -211,7 +210,7 @@ shows t (protect i o m d) = []
 shows t (retrieve i o h) = []
 shows t report = []
 shows t (handOver p) = []
-shows t (chain w i x v) = []
+shows t (chain first v) = []
 shows t (release i h) = []
 
 pub record Done (t : Tables) (c : Call) (r : Result) : Type 0 where

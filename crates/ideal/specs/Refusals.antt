@@ -1,6 +1,6 @@
 -- Demand 1: which number is given when, said a second time, by number as document 01 lists them and on the host's
 -- tables; what a refused call leaves; how many bytes a cut record misses (document 02, P2); a chain link by link (P3).
-use Prim.Native.Nat.{ℕ, zero, suc, _+_, _*_, _-_, _<_, _^_}
+use Prim.Native.Nat.{ℕ, zero, suc, _+_, _-_, _<_, _^_}
 use mathlib.Core.Path.{_≡_}
 use mathlib.Core.Logic.{_↔_}
 use mathlib.Core.Bool.{Bool, true, false, not, _&&_, _||_, cond}
@@ -10,15 +10,14 @@ use lib.ListN.{length, getD, drop}
 use lib.Dec.{eqb, ltb, leb}
 use Rattle.fnv.specs.declared.Tag.{Tag}
 use Rattle.record.specs.declared.Handle.{Handle}
-use Rattle.record.specs.Call.{Call}
+use Rattle.record.specs.Call.{Link, loggedLink, escrowedLink, strayLink, linkBy, identityOf, Call, firstIn}
 use Rattle.record.specs.Layout.{stands, OrRefusal, gives, refuses, mapOf}
 use Rattle.record.specs.Read.{Reading, refused, whole, read, fromLittle}
 use Rattle.record.specs.Write.{filled}
 use Rattle.ideal.specs.declared.LogRow.{LogRow}
 use Rattle.ideal.specs.declared.EscrowRow.{EscrowRow}
 use Rattle.ideal.specs.State.{part, any, find, sameBytes}
-use Rattle.ideal.specs.Step.{Link}
-use Rattle.ideal.specs.Tables.{Tables, usedLog, usedEscrow}
+use Rattle.ideal.specs.Tables.{Tables, heapStart, usedLog, usedEscrow}
 use Rattle.ideal.specs.Soundness.{sizesRight, sound}
 use Rattle.ideal.specs.Box.{Element, Result}
 
@@ -28,7 +27,7 @@ callerIn t = getD (t .box .identities) (t .box .running) 0
 
 -- a part of the running place's heap
 abbrev pub ownBytes : Tables → ℕ → ℕ → List ℕ
-ownBytes t offset size = part (t .heaps) (256 * t .box .running + offset) size
+ownBytes t offset size = part (t .heaps) (heapStart (t .box .running) + offset) size
 
 unfoldable pub oneOf : List ℕ → ℕ → Bool
 oneOf ns n = any (λ m. eqb m n) ns
@@ -124,34 +123,46 @@ isLogRow values i g v r =
 abbrev pub countAt : List ℕ → ℕ
 countAt bs = fromLittle (part bs 0 2)
 
--- a link's value: the next in the chain bytes where it is logged (2), else that of the escrow row
+-- a link's value: the next in the chain bytes where it is logged, that of the escrow row where it is escrowed
 unfoldable pub valueAt : Tables → Link → List ℕ → List ℕ
-valueAt t k bs =
-    cond (eqb (k .way) 2) (part bs 2 (countAt bs))
-    (bytesIn (t .escrowValues) (rowFor t (k .identity) (record { 0 = k .number })))
+valueAt t (loggedLink i g) bs = part bs 2 (countAt bs)
+valueAt t (escrowedLink i h) bs = bytesIn (t .escrowValues) (rowFor t i h)
+valueAt t (strayLink w i x) bs = []
 
 -- the chain bytes behind it
 unfoldable pub leftAt : Link → List ℕ → List ℕ
-leftAt k bs = cond (eqb (k .way) 2) (drop (2 + countAt bs) bs) bs
+leftAt (loggedLink i g) bs = drop (2 + countAt bs) bs
+leftAt (escrowedLink i h) bs = bs
+leftAt (strayLink w i x) bs = bs
+
+-- its way isn't 2 or 3, or its logged value is cut
+unfoldable pub unreadableAt : Link → List ℕ → Bool
+unreadableAt (loggedLink i g) bs = ltb (length bs) (2 + countAt bs)
+unreadableAt (escrowedLink i h) bs = false
+unreadableAt (strayLink w i x) bs = true
+
+-- no log row has its identity, its tag and this value, or there is no escrow row
+unfoldable pub unknownAt : Tables → Link → List ℕ → Bool
+unknownAt t (loggedLink i g) v = not (any (isLogRow (t .logValues) i g v) (usedLog t))
+unknownAt t (escrowedLink i h) v = isAbsent (rowFor t i h)
+unknownAt t (strayLink w i x) v = true
 
 -- a head with 2 or 3 has 16 bytes behind that: the next link's identity, and its tag or handle
 unfoldable pub leadsOn : List ℕ → Bool
 leadsOn v = (eqb (getD v 0 0) 2 || eqb (getD v 0 0) 3) && ltb 16 (length v)
 
 abbrev pub namedIn : List ℕ → Link
-namedIn v = record { way = getD v 0 0; identity = fromLittle (part v 1 8); number = fromLittle (part v 9 8) }
+namedIn v = linkBy (getD v 0 0) (fromLittle (part v 1 8)) (fromLittle (part v 9 8))
 
 -- the conditions of a link that comes after n others
 unfoldable pub linkConditions : Tables → (n : ℕ) → Link → List ℕ → List (ℕ × Bool)
 linkConditions t n k bs =
     let v = valueAt t k bs in
     let ends = eqb (getD v 0 0) 1 in
-    let kept = any (isLogRow (t .logValues) (k .identity) (record { 0 = k .number }) v) (usedLog t) in
-    let row = rowFor t (k .identity) (record { 0 = k .number }) in
     (20, eqb n 16)
-    ∷ (19, not (eqb (k .way) 2 || eqb (k .way) 3) || (eqb (k .way) 2 && ltb (length bs) (2 + countAt bs)))
-    ∷ (9, eqb (k .identity) 0)
-    ∷ (18, cond (eqb (k .way) 2) (not kept) (isAbsent row))
+    ∷ (19, unreadableAt k bs)
+    ∷ (9, eqb (identityOf k) 0)
+    ∷ (18, unknownAt t k v)
     ∷ (19, not (ends || leadsOn v))
     ∷ (19, ends && not (eqb (length (leftAt k bs)) 0))
     ∷ []
@@ -164,6 +175,11 @@ chainConditions t (suc most) n k bs =
     let later = chainConditions t most (suc n) (namedIn v) (leftAt k bs) in
     linkConditions t n k bs ++ cond (leadsOn v) later []
 
+-- those of a chain, from its first link on: a seventeenth link has its 20
+unfoldable pub ofChain : Tables → Option Link → List ℕ → List (ℕ × Bool)
+ofChain t none bs = []
+ofChain t (some k) bs = chainConditions t 17 0 k bs
+
 -- ---- each call
 
 unfoldable pub callConditions : Tables → Call → List (ℕ × Bool)
@@ -173,7 +189,6 @@ callConditions t c =
     let f = filled c .fields in
     let size = f .length + length (filled c .bytes) in
     let taken = stands (b .taken) (f .place) in
-    let first : Link = record { way = f .place; identity = f .identity; number = f .number } in
     let row = rowFor t (f .identity) (record { 0 = f .number }) in
     let pair = any (holdsPair (t .logValues) (callerIn t) (ownBytes t (f .offset) (f .length))) (usedLog t) in
     (4, oneOf (4 ∷ 5 ∷ 6 ∷ 9 ∷ 11 ∷ 12 ∷ 15 ∷ 16 ∷ []) kind && eqb (b .running) 16)
@@ -195,8 +210,7 @@ callConditions t c =
           && (not pair && (eqb (b .log .rows) 64 || ltb 4096 (b .log .bytes + f .length))),
     )
     ∷ (14, eqb kind 11 && (eqb (b .escrow .rows) 64 || ltb 4096 (b .escrow .bytes + f .length)))
-    -- a seventeenth link has its 20
-    ∷ cond (eqb kind 15) (chainConditions t 17 0 first (filled c .bytes)) []
+    ∷ ofChain t (firstIn c) (filled c .bytes)
 
 -- order: 15; then the reader's; then those of the call that is read
 module _ (rows : Tables → Call → List (ℕ × Bool)) where

@@ -1,6 +1,6 @@
 -- Demand 3, as document 01's "Two runs compared" writes it: one claim about two whole lists. Code and number of a group
 -- program's own chain calls are not compared (document 02, P3); their bytes used are.
-use Prim.Native.Nat.{ℕ, _+_, _*_, _≤_, _<_}
+use Prim.Native.Nat.{ℕ, _+_, _≤_, _<_}
 use mathlib.Core.Path.{_≡_}
 use mathlib.Core.Bool.{Bool, true, false, not, _&&_}
 use mathlib.Core.List.{List}
@@ -13,7 +13,7 @@ use Rattle.record.specs.Write.{filled}
 use Rattle.ideal.specs.declared.EscrowRow.{EscrowRow}
 use Rattle.ideal.specs.State.{part}
 use Rattle.ideal.specs.Step.{Answer}
-use Rattle.ideal.specs.Tables.{Tables, escrowTable}
+use Rattle.ideal.specs.Tables.{Tables, heapStart, escrowTable}
 use Rattle.ideal.specs.Box.{Element, Result, elementAt, tablesAfter, tablesBefore, answerAt}
 use Rattle.ideal.specs.Refusals.{callerIn, ownBytes}
 
@@ -63,7 +63,7 @@ pub record AgreeOutside (G : ℕ → Bool) (t u : Tables) : Type 0 where
   pub escrowRows : t .escrowRows ≡ u .escrowRows
   -- the heap of each place whose identity isn't in the group, empty places included
   pub heaps : (p : ℕ) → p < 16 → inside G (getD (t .box .identities) p 0) ≡ false
-      → part (t .heaps) (256 * p) 256 ≡ part (u .heaps) (256 * p) 256
+      → part (t .heaps) (heapStart p) 256 ≡ part (u .heaps) (heapStart p) 256
   -- only values from one group program to another may differ
   pub escrowValues : (k : ℕ) → k < t .box .escrow .rows
       → let r = getD (t .escrowRows) k (escrowTable .blank) in groupToGroup G r ≡ false

@@ -23,9 +23,9 @@ unfoldable pub pass : All → Bool
 pass done = true
 pass (b and bs) = b && pass bs
 
--- every lent buffer, the output buffer's too, is of its size
-unfoldable pub sizesRight : Tables → ℕ → Bool
-sizesRight t outputSize =
+-- everything that the tables lend is of its size
+unfoldable pub tablesSized : Tables → Bool
+tablesSized t =
     pass
     (eqb (length (t .box .identities)) 16
     and eqb (length (t .heaps)) 4096
@@ -34,8 +34,11 @@ sizesRight t outputSize =
     and eqb (length (t .logValues)) 4096
     and eqb (length (t .escrowRows)) 64
     and eqb (length (t .escrowValues)) 4096
-    and eqb outputSize 1024
     and done)
+
+-- and so is the output buffer
+unfoldable pub sizesRight : Tables → ℕ → Bool
+sizesRight t outputSize = tablesSized t && eqb outputSize 1024
 
 -- the running place is 16 or taken
 unfoldable pub runningTaken : BoxRecord → Bool

@@ -10,7 +10,7 @@ use Rattle.fnv.specs.declared.Tag.{Tag}
 use Rattle.fnv.specs.Fnv.{tagOf}
 use Rattle.record.specs.declared.Handle.{Handle}
 use Rattle.record.specs.declared.Draw.{Draw}
-use Rattle.record.specs.Call.{Call, create, exit, heapWrite, heapRead, sharedWrite, sharedRead, attest, check, protect, retrieve, report, handOver, chain, release}
+use Rattle.record.specs.Call.{Link, loggedLink, escrowedLink, strayLink, linkBy, identityOf, Call, create, exit, heapWrite, heapRead, sharedWrite, sharedRead, attest, check, protect, retrieve, report, handOver, chain, release}
 use Rattle.record.specs.Read.{Reading, refused, whole, read, fromLittle}
 use Rattle.ideal.specs.State.{Entry, Logged, Escrowed, State, Move, nothing, takes, activates, empties, writes, shares, logs, escrows, releases, cleared, identityAt, heapAt, caller, part, ownPart, any, find, sameBytes, bytesUsed}
 
@@ -110,12 +110,6 @@ firstHolding (t then ts) = cond (t .1) (t .0) (firstHolding ts)
 
 -- ---- a chain of custody (document 02, P3)
 
--- a link as a record or a head names it: its way (2: logged, 3: escrowed), its identity, and its tag or handle
-pub record Link : Type 0 where
-  pub way : ℕ
-  pub identity : ℕ
-  pub number : ℕ
-
 pub data Head : Type 0 where
   malformed : Head
   ends : Head
@@ -125,7 +119,7 @@ pub data Head : Type 0 where
 unfoldable pub headOf : List ℕ → Head
 headOf [] = malformed
 headOf (b ∷ v) =
-    let link : Link = record { way = b; identity = fromLittle (take 8 v); number = fromLittle (take 8 (drop 8 v)) } in
+    let link = linkBy b (fromLittle (take 8 v)) (fromLittle (take 8 (drop 8 v))) in
     cond (eqb b 1) ends (cond ((eqb b 2 || eqb b 3) && leb 16 (length v)) (leads link) malformed)
 
 unfoldable pub isMalformed : Head → Bool
@@ -144,9 +138,17 @@ nextCut bs = ltb (length bs) (2 + nextCount bs)
 unfoldable pub nextValue : List ℕ → List ℕ
 nextValue bs = take (nextCount bs) (drop 2 bs)
 
+-- of a way that no link has, or its logged value is cut in the chain bytes
+unfoldable pub unreadable : Link → List ℕ → Bool
+unreadable (loggedLink i g) bs = nextCut bs
+unreadable (escrowedLink i h) bs = false
+unreadable (strayLink w i x) bs = true
+
 -- the chain bytes behind a link
 unfoldable pub bytesAfter : Link → List ℕ → List ℕ
-bytesAfter k bs = cond (eqb (k .way) 2) (drop (2 + nextCount bs) bs) bs
+bytesAfter (loggedLink i g) bs = drop (2 + nextCount bs) bs
+bytesAfter (escrowedLink i h) bs = bs
+bytesAfter (strayLink w i x) bs = bs
 
 -- what follows a head that is not malformed, where these chain bytes are left: `later` goes on with the next link
 unfoldable pub afterHead : (Link → List ℕ → Tests) → Head → List ℕ → Tests
@@ -163,21 +165,23 @@ linksAfter later (leads k) bs = later k bs
 module _ (log : List Logged) (lookUp : ℕ → Handle → Option Escrowed) where
   -- a logged value stands in the chain bytes, an escrowed one in the escrow
   unfoldable pub linkValue : Link → List ℕ → List ℕ
-  linkValue k bs = cond (eqb (k .way) 2) (nextValue bs) (valueIn (lookUp (k .identity) (record { 0 = k .number })))
+  linkValue (loggedLink i g) bs = nextValue bs
+  linkValue (escrowedLink i h) bs = valueIn (lookUp i h)
+  linkValue (strayLink w i x) bs = []
 
   -- the check is no, or no row is found
   unfoldable pub unvouched : Link → List ℕ → Bool
-  unvouched k bs =
-      cond (eqb (k .way) 2) (not (logged (k .identity) (record { 0 = k .number }) (nextValue bs) log))
-      (absent (lookUp (k .identity) (record { 0 = k .number })))
+  unvouched (loggedLink i g) bs = not (logged i g (nextValue bs) log)
+  unvouched (escrowedLink i h) bs = absent (lookUp i h)
+  unvouched (strayLink w i x) bs = true
 
   -- the tests of a link and of all that come after it, where so many may still be followed
   unfoldable pub follow : ℕ → Link → List ℕ → Tests
   follow zero k bs = (20, true) then accept
   follow (suc left) k bs =
       let head = headOf (linkValue k bs) in
-      (19, not (eqb (k .way) 2 || eqb (k .way) 3) || (eqb (k .way) 2 && nextCut bs))
-      then (9, eqb (k .identity) 0)
+      (19, unreadable k bs)
+      then (9, eqb (identityOf k) 0)
       then (18, unvouched k bs)
       then (19, isMalformed head)
       then afterHead (follow left) head (bytesAfter k bs)
@@ -220,7 +224,7 @@ tests s (retrieve i o h) =
 tests s report = accept
 -- place 16 has no identity, and is not empty
 tests s (handOver p) = (6, ltb 16 p) then (7, ltb p 16 && vacant s p) then accept
-tests s (chain w i x v) = (4, idle s) then follow (s .log) (found s) 16 (record { way = w; identity = i; number = x }) v
+tests s (chain first v) = (4, idle s) then follow (s .log) (found s) 16 first v
 tests s (release i h) = (4, idle s) then (9, eqb i 0) then (10, absent (found s i h)) then accept
 
 unfoldable pub refusal : State → Call → ℕ
@@ -249,7 +253,7 @@ move s (protect i o n d) = escrows (protected s i o n d)
 move s (retrieve i o h) = writes (s .running) o (valueIn (found s i h))
 move s report = nothing
 move s (handOver p) = activates p
-move s (chain w i x v) = nothing
+move s (chain first v) = nothing
 move s (release i h) = releases i (caller s) h
 
 -- ---- moves on the state
@@ -311,7 +315,7 @@ number s (protect i o n d) = freeHandle n d (s .escrow) .0
 number s (retrieve i o h) = length (valueIn (found s i h))
 number s report = services (s .identities) + 256 * length (s .log) + 65536 * length (s .escrow)
 number s (handOver p) = 0
-number s (chain w i x v) = linksFrom (s .log) (found s) 16 (record { way = w; identity = i; number = x }) v
+number s (chain first v) = linksFrom (s .log) (found s) 16 first v
 number s (release i h) = 0
 
 unfoldable pub shown : State → Call → List ℕ
@@ -327,7 +331,7 @@ shown s (protect i o n d) = []
 shown s (retrieve i o h) = []
 shown s report = []
 shown s (handOver p) = []
-shown s (chain w i x v) = []
+shown s (chain first v) = []
 shown s (release i h) = []
 
 -- ---- a step

@@ -20,6 +20,23 @@ pub record Tables : Type 0 where
   pub escrowRows : List EscrowRow
   pub escrowValues : List ℕ
 
+-- these: the box record, and what the host lends, in the order of an entry's parameters
+abbrev pub lentTables : BoxRecord → List LogRow → List EscrowRow → (heaps shared logValues escrowValues : List ℕ) → Tables
+lentTables b log escrow heaps shared logValues escrowValues =
+    record {
+      box = b;
+      heaps = heaps;
+      shared = shared;
+      logRows = log;
+      logValues = logValues;
+      escrowRows = escrow;
+      escrowValues = escrowValues;
+    }
+
+-- where the 256 bytes of place p's heap start
+abbrev pub heapStart : ℕ → ℕ
+heapStart p = 256 * p
+
 -- ---- a table: rows with a key, a first byte and a length over value bytes
 
 pub record RowsOf (Row Key : Type 0) : Type 0 where

@@ -8,7 +8,7 @@ use mathlib.Core.List.{List, [], _∷_, _++_, map}
 use lib.ListN.{length, getD}
 use lib.Dec.{eqb}
 use Rattle.fnv.specs.Fnv.{little}
-use Rattle.record.specs.Call.{Call, create, heapWrite, heapRead, attest, protect, retrieve, report, handOver, chain, release}
+use Rattle.record.specs.Call.{escrowedLink, Call, create, heapWrite, heapRead, attest, protect, retrieve, report, handOver, chain, release}
 use Rattle.record.specs.Write.{write}
 use Rattle.ideal.specs.Tables.{Tables}
 use Rattle.ideal.specs.Step.{handleOf, next, Answer}
@@ -95,7 +95,7 @@ before b =
     ∷ []
 
 unfoldable pub chained : ℕ → List Element
-chained b = map element (before b) ++ (element (chain 3 1 (17 * 2 ^ 48 + 7) []) ∷ [])
+chained b = map element (before b) ++ (element (chain (escrowedLink 1 (record { 0 = 17 * 2 ^ 48 + 7 })) []) ∷ [])
 
 unfoldable pub links : (code number : ℕ) → Answer
 links code number = record { code = code; number = number; used = 21; shown = [] }

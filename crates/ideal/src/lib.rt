@@ -2,6 +2,9 @@
 use fnv::Tag;
 use record::Handle;
 
+// The bytes of a heap: place p has those from HEAP times p.
+pub const HEAP: usize = 256;
+
 // The used-counts of a table.
 #[repr(C)]
 pub struct Used {

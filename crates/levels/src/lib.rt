@@ -11,6 +11,7 @@ ghost use Rattle.state.specs.Parts.{TableFits};
 ghost use Rattle.levels.specs.Narrow.{placeBarred, attestBarred, barredOn, ownRefusal};
 use buffers::same;
 use ideal::BoxRecord;
+use ideal::HEAP;
 use ideal::LogRow;
 use ideal::Profile;
 use record::Call;
@@ -64,7 +65,7 @@ fn attest_barred(
         return 0;
     }
     let place = held.running as usize;
-    let heap = 256 * place;
+    let heap = HEAP * place;
     let start = heap + offset as usize;
     let end = start + size as usize;
     let identity = held.identities[place];

@@ -11,6 +11,7 @@ use buffers::put;
 use fnv::Tag;
 use fnv::tag_of;
 use ideal::BoxRecord;
+use ideal::HEAP;
 use ideal::LogRow;
 use ideal::Used;
 use pairs::in_log;
@@ -50,7 +51,6 @@ fn log_more(held: BoxRecord, values: &mut [u8], identity: u64, tag: Tag, value: 
         put: true,
         at: used.rows as usize,
         row,
-        fall: 0,
     };
     let edits = Edits {
         log: edit,
@@ -105,7 +105,7 @@ pub fn attest(
         return refuse(held, 11);
     }
     let place = held.running as usize;
-    let heap = 256 * place;
+    let heap = HEAP * place;
     let start = heap + offset as usize;
     let end = start + size as usize;
     let identity = held.identities[place];

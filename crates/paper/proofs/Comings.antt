@@ -7,14 +7,15 @@ use native.Mathlib.Omega.{arith}
 use lib.ListN.{getD, length}
 use lib.Dec.{eqb}
 use borrow.Author.Tests.{ne-eqb}
+use Rattle.record.specs.Call.{Link}
 use Rattle.ideal.specs.State.{State}
-use Rattle.ideal.specs.Step.{Link, malformed, ends, leads, headOf, nextCount, nextCut, linkValue, found}
+use Rattle.ideal.specs.Step.{malformed, ends, leads, headOf, linkValue, found}
 use Rattle.ideal.specs.Tables.{tables, stateOf}
 use Rattle.ideal.specs.Refusals.{valueAt, leftAt, leadsOn, namedIn, linkConditions, First, later, none-holds}
 use Rattle.ideal.specs.Valid.{Valid}
 use Rattle.ideal.proofs.Laid.{state-tables}
 use Rattle.ideal.proofs.Heads.{same-leads, HeadIs, is-malformed, is-end, is-next, head-is}
-use Rattle.ideal.proofs.Links.{value-at, left-at, unvouched-at}
+use Rattle.ideal.proofs.Links.{value-at, left-at, unreadable-at, unvouched-at}
 use Rattle.ideal.proofs.Following.{Clear, Comes, at-first as at-start, goes-on as on}
 use Rattle.paper.specs.Paper.{ComesTo, at-first, goes-on}
 
@@ -27,7 +28,7 @@ module _ (s : State) (valid : Valid s) where
 
   passes : (n : ℕ) (k m : Link) (bs : List ℕ) → (n ≡ 16 → ⊥) → Clear (s .log) (found s) k bs
       → headOf (linkValue (s .log) (found s) k bs) ≡ leads m → Passes n k m bs
-  unfolding linkConditions nextCut nextCount
+  unfolding linkConditions
   passes n k m bs few c e = by (head-is v) (ap headOf (sym (value-at s back k bs)) ∙ e)
     where
       back : stateOf (tables s) ≡ s
@@ -44,7 +45,7 @@ module _ (s : State) (valid : Valid s) where
           let on : eqb (getD v 0 0) 1 && not (eqb (length (leftAt k bs)) 0) ≡ false = rw a in
           record {
             first =
-                later (ne-eqb n 16 few) (later (c .reads) (later (c .named)
+                later (ne-eqb n 16 few) (later (sym (unreadable-at k bs) ∙ c .reads) (later (c .named)
                 (later (sym (unvouched-at s back k bs) ∙ c .vouched)
                 (later well (later on (none-holds refl))))));
             leads-on = b;
@@ -58,4 +59,4 @@ module _ (s : State) (valid : Valid s) where
       let (few, there) = comes-to come in
       let p = passes (16 - suc left) l m rest (λ z. omega arith) c e in
       let n : suc (16 - suc left) ≡ 16 - left = omega arith in
-      (omega arith, rw (← n, ← p .is, left-at s (state-tables s valid) l rest) (goes-on there (p .first) (p .leads-on)))
+      (omega arith, rw (← n, ← p .is, left-at l rest) (goes-on there (p .first) (p .leads-on)))

@@ -77,7 +77,7 @@ was t (protect i o n x) d h =
 was t (retrieve i o a) d h = is-command t _ (iretrieve i a o) d h refl
 was t report d h = no-command d h
 was t (handOver p) d h = no-command d h
-was t (chain w i x v) d h = no-command d h
+was t (chain first v) d h = no-command d h
 was t (release i a) d h = is-command t _ (irelease i a) d h refl
 
 executed : (t : Tables) (r : Result) (c : Call) (ev : Event) (x : Option Command) → commandOf (ownBytes t) c ≡ x

@@ -117,7 +117,7 @@ tells s t e v w k =
       attests = λ g. clash _ g (own-open p (caller s));
       protects = λ g. clash _ g (own-open p (caller s));
       retrieves = λ g i o h q r. refl;
-      follows = λ g w i x v q left l rest come way some. refl;
+      follows = λ g first v q left i h rest come some. refl;
     } in
     let b = both-element (others p) k e (λ x c u y. none c) in
     rw (call-is s e v, call-is t e w) (all-equal (chained (read (e .bytes))) (own-open p (caller s)) (b .answer), only-others p (b .state) (valid-step s e v) (valid-step t e w))

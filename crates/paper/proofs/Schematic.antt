@@ -10,10 +10,10 @@ use lib.Dec.{eqb, leb}
 use borrow.Author.Tests.{eq-eqb, ne-eqb, ltb-true, le-ltb, leb-true}
 use Rattle.record.specs.declared.Handle.{Handle}
 use Rattle.record.specs.declared.Draw.{Draw}
-use Rattle.record.specs.Call.{Call, heapWrite, protect, retrieve}
+use Rattle.record.specs.Call.{Call, heapWrite, protect, retrieve, firstIn}
 use Rattle.record.specs.Read.{whole, read}
 use Rattle.record.specs.Write.{write, filled}
-use Rattle.record.specs.Statements.{ReadsBack, Fits}
+use Rattle.record.specs.Statements.{ReadsBack, ByItsWay, Fits}
 use Rattle.record.proofs.RoundTrip.{reads-back}
 use Rattle.ideal.specs.State.{State, heapAt, caller, part, ownPart}
 use Rattle.ideal.specs.Step.{refusal, tests, firstHolding, idle, beyond, protected, move, apply, effect, number, accepted}
@@ -123,12 +123,16 @@ written-element s p o w l f r =
       sized = unfold element in refl;
       reads = read-element (heapWrite p o w)
           (record {
-            place = omega arith;
-            identity = omega arith;
-            offset = omega arith;
-            size = omega arith;
-            number = omega arith;
-            count = omega arith;
+            fields =
+                record {
+                  place = omega arith;
+                  identity = omega arith;
+                  offset = omega arith;
+                  size = omega arith;
+                  number = omega arith;
+                  count = omega arith;
+                };
+            way = unfold firstIn ByItsWay in tt;
           });
       passes = r;
     }

@@ -10,7 +10,7 @@ use lib.Seq.{ext-getD, getD-take}
 use lib.Dec.{eqb}
 use borrow.Author.Tests.{eqb-true}
 use Rattle.record.specs.declared.Handle.{Handle}
-use Rattle.record.specs.Call.{Call, retrieve, chain}
+use Rattle.record.specs.Call.{Link, escrowedLink, Call, retrieve, chain}
 use Rattle.record.specs.Read.{Reading, refused, whole, read}
 use Rattle.ideal.specs.declared.EscrowRow.{EscrowRow}
 use Rattle.ideal.specs.State.{State, caller, part}
@@ -50,10 +50,8 @@ module _ (p q : ℕ) (η : Handle) where
   -- the call neither hands the value out nor follows a chain through it
   record Quiet (s : State) (c : Call) : Type 0 where
     retrieves : (o : ℕ) → c ≡ retrieve p o η → caller s ≡ q → refusal s c ≡ 0 → ⊥
-    follows : (w i x : ℕ) (v : List ℕ) → c ≡ chain w i x v → caller s ≡ q → (left : ℕ) (rest : List ℕ)
-        → Comes (s .log) (found s) (record { way = w; identity = i; number = x }) v (suc left)
-        (record { way = 3; identity = p; number = η .0 }) rest
-        → absent (found s p η) ≡ false → ⊥
+    follows : (first : Link) (v : List ℕ) → c ≡ chain first v → caller s ≡ q → (left : ℕ) (rest : List ℕ)
+        → Comes (s .log) (found s) first v (suc left) (escrowedLink p η) rest → absent (found s p η) ≡ false → ⊥
 
   record IsKey (i j : ℕ) (h : Handle) : Type 0 where
     source : i ≡ p
@@ -81,13 +79,12 @@ module _ (p q : ℕ) (η : Handle) where
             (λ y. let k = is-key i (caller s) a y in
             absurd (h .retrieves o (e ∙ (λ m. retrieve (k .source m) o (k .handle m))) (k .recipient) r))
             (λ n. n);
-        follows = λ g w i x v e left l rest come way some.
-            by-cases (z .value (record { source = l .identity; recipient = caller s; handle = record { 0 = l .number }; mark = 0 }))
-            (λ y. let k = is-key (l .identity) (caller s) (record { 0 = l .number }) y in
-            let l₁ : l ≡ record { way = 3; identity = p; number = η .0 } =
-            λ m. record { way = way m; identity = k .source m; number = k .handle m .0 } in
-            absurd (h .follows w i x v e (k .recipient) left rest (subst (λ a. Comes (s .log) (found s) (record { way = w; identity = i; number = x }) v (suc left) a rest) l₁ come)
-            (ap (λ a. absent (found s (a .identity) (record { 0 = a .number }))) (sym l₁) ∙ some)))
+        follows = λ g first v e left i a rest come some.
+            by-cases (z .value (record { source = i; recipient = caller s; handle = a; mark = 0 }))
+            (λ y. let k = is-key i (caller s) a y in
+            absurd (h .follows first v e (k .recipient) left rest
+            (subst₂ (λ i a. Comes (s .log) (found s) first v (suc left) (escrowedLink i a) rest) (k .source) (k .handle) come)
+            (subst₂ (λ i a. absent (found s i a) ≡ false) (k .source) (k .handle) some)))
             (λ n. n);
       }
 
@@ -188,11 +185,11 @@ module _ (p q : ℕ) (η : Handle) where
               by = by;
               accepts = accepted-code s e c u v x y r;
             });
-        follows = λ w i x b is by left rest come some.
+        follows = λ first b is by left rest come some.
             let (few, there) = comes-to s v come in
             f 0 (omega arith)
             (record {
-              first = record { way = w; identity = i; number = x };
+              first = first;
               bytes = b;
               used = u;
               reads = y ∙ ap (λ d. whole d u) is;

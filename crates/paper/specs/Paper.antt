@@ -9,10 +9,9 @@ use lib.Dec.{eqb}
 use Rattle.fnv.specs.declared.Tag.{Tag}
 use Rattle.record.specs.declared.Handle.{Handle}
 use Rattle.record.specs.declared.Draw.{Draw}
-use Rattle.record.specs.Call.{Call, create, exit, heapWrite, heapRead, sharedWrite, sharedRead, attest, check, protect, retrieve, report, handOver, chain, release}
+use Rattle.record.specs.Call.{Link, escrowedLink, Call, create, exit, heapWrite, heapRead, sharedWrite, sharedRead, attest, check, protect, retrieve, report, handOver, chain, release}
 use Rattle.record.specs.Read.{Reading, refused, whole, read}
 use Rattle.ideal.specs.State.{part}
-use Rattle.ideal.specs.Step.{Link}
 use Rattle.ideal.specs.Tables.{Tables, escrowTable, freshTables}
 use Rattle.ideal.specs.Box.{Element, Result, elementAt, tablesBefore, tablesFrom, answersFrom}
 use Rattle.ideal.specs.Layouts.{Sound}
@@ -69,7 +68,7 @@ commandOf own (protect i o n d) = some (iprotect i (own o n))
 commandOf own (retrieve i o h) = some (iretrieve i h o)
 commandOf own report = none
 commandOf own (handOver p) = none
-commandOf own (chain w i x v) = none
+commandOf own (chain first v) = none
 commandOf own (release i h) = some (irelease i h)
 
 -- what a command gives that is accepted; a release gives nothing but that
@@ -253,12 +252,12 @@ module _ (box : Tables → Element → Result) where
     pub first : Link
     pub bytes : List ℕ
     pub used : ℕ
-    pub reads : read (elementAt es k .bytes) ≡ whole (chain (first .way) (first .identity) (first .number) bytes) used
+    pub reads : read (elementAt es k .bytes) ≡ whole (chain first bytes) used
     pub by : callerIn (tablesAt t es k) ≡ q
     pub before : ℕ
     pub few : before < 16
     pub left : List ℕ
-    pub comes : ComesTo (tablesAt t es k) first bytes before (record { way = 3; identity = p; number = η .0 }) left
+    pub comes : ComesTo (tablesAt t es k) first bytes before (escrowedLink p η) left
     pub finds : isAbsent (rowFor (tablesAt t es k) p η) ≡ false
 
   -- the paper has no chains: following one through the handle counts, with retrieving it, among what P_r does not do

@@ -1,5 +1,5 @@
 -- Service life, as the CAIF paper's 5.1 and 5.3 have it.
-use Prim.Native.Nat.{ℕ, _*_, _<_}
+use Prim.Native.Nat.{ℕ, _<_}
 use mathlib.Core.Path.{_≡_}
 use mathlib.Core.Bool.{true}
 use mathlib.Core.List.{List, [], _∷_}
@@ -9,7 +9,7 @@ use Rattle.record.specs.Layout.{stands}
 use Rattle.record.specs.Read.{whole, read}
 use Rattle.record.specs.Write.{filled}
 use Rattle.ideal.specs.State.{part, cleared}
-use Rattle.ideal.specs.Tables.{Tables}
+use Rattle.ideal.specs.Tables.{Tables, heapStart}
 use Rattle.ideal.specs.Box.{Element, Result, tablesBefore, answerAt}
 use Rattle.ideal.specs.Layouts.{Sound}
 use Rattle.ideal.specs.Refusals.{oneOf}
@@ -17,7 +17,7 @@ use Rattle.ideal.specs.OneCall.{withPlacesIn}
 use Rattle.ideal.specs.History.{Accepts}
 
 abbrev pub heapOf : Tables → ℕ → List ℕ
-heapOf t p = part (t .heaps) (256 * p) 256
+heapOf t p = part (t .heaps) (heapStart p) 256
 
 -- ---- 5.1: "A non-shared heap segment is readable and writable by this service, but not by any other active process"
 

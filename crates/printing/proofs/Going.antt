@@ -1,26 +1,24 @@
 -- What the program's loop keeps, from buffer to buffer.
 use Prim.Native.Nat.{ℕ, _+_, _*_, _-_, _^_, _≤_, _<_}
-use mathlib.Core.Path.{_≡_, refl, ap, sym, subst, _∙_}
-use mathlib.Core.Bool.{Bool, true, false, cond}
-use mathlib.Core.List.{List, [], _∷_, _++_}
+use mathlib.Core.Path.{_≡_, refl, ap, sym, _∙_}
+use mathlib.Core.List.{List, [], _++_}
 use native.Mathlib.Omega.{arith}
-use lib.ListN.{length, take, drop, replicate, length-append, length-take, length-drop}
-use lib.Seq.{take-length, drop-drop, take-append-seam, drop-at}
+use lib.ListN.{length, take, drop, replicate, length-append, length-take, length-drop, drop-of-length-le}
+use lib.Seq.{drop-drop, take-append-seam, drop-at}
 use borrow.Author.Tests.{lt-ltb, le-ltb}
 use Rattle.ideal.specs.declared.BoxRecord.{BoxRecord}
 use Rattle.ideal.specs.declared.Profile.{Profile}
-use Rattle.ideal.specs.Step.{Answer}
-use Rattle.ideal.specs.Tables.{Tables, freshTables}
+use Rattle.ideal.specs.Tables.{Tables, freshTables, flat, lentTables}
+use Rattle.ideal.specs.Box.{answersFrom}
 use Rattle.ideal.specs.LevelOne.{boxOf}
 use Rattle.ideal.specs.Layouts.{Sound}
 use Rattle.ideal.proofs.Kept.{fresh-box}
 use Rattle.state.specs.declared.LogTable.{LogTable}
 use Rattle.state.specs.declared.EscrowTable.{EscrowTable}
-use Rattle.soundness.specs.Parts.{tablesOf}
-use Rattle.sheet.specs.Sheet.{bytesOf, spaced, shownText, line, header, tooLong, called, linesFrom, sheet}
-use Rattle.sheet.specs.Turns.{Turn, turn}
-use Rattle.turns.specs.Next.{TurnMade, followed, turnsFrom, turns, linesLeft, Writes}
-use Rattle.turns.proofs.OneByOne.{turns-write, turns-go-on}
+use Rattle.sheet.specs.Records.{recordsFrom}
+use Rattle.sheet.specs.Sheet.{bytesOf, header, tooLong, linesOf, sheet}
+use Rattle.turns.specs.Next.{Turn, turns, Writes, GoesOn, TurnMade}
+use Rattle.turns.proofs.OneByOne.{turns-write, turns-go-on, to-the-end, front-length, front-text}
 use Rattle.printing.specs.declared.output.Failure.{Failure}
 use Rattle.printing.specs.declared.output.Printed.{Printed}
 use Rattle.printing.specs.declared.output.Printed.the-variants.{UpTo, Failed}
@@ -52,53 +50,32 @@ pub failed-part : {text bytes : List ℕ} {printed : ℕ} (r : Printed) (f : Fai
     → PrintedPart r printed bytes → PrintedWhole r text
 failed-part r f e p h = rw e (omega (arith, p .some, part-within p, rw e at h))
 
--- ---- lines
-
-after-some : (s t : List ℕ) → 0 < length t → 0 < length (s ++ t)
-after-some s t h = omega (arith, length-append s t)
-
-line-some : (a : Answer) → 0 < length (line a)
-unfolding line bytesOf
-line-some a =
-    after-some (spaced (a .code) ++ spaced (a .number) ++ spaced (a .used) ++ shownText (a .shown)) (bytesOf "\n") (omega arith)
-
-followed-some : (b : Bool) (a later : Turn) → 0 < length (a .text) → 0 < length (cond b a (followed a later) .text)
-followed-some true a later h = h
-followed-some false a later h = omega (arith, length-append (a .text) (later .text))
-
--- where input is left and there is room for any line, a line is written
-turns-some : (p : Profile) (room : ℕ) (t : Tables) (rest : List ℕ) → 0 < length rest → 2113 ≤ room → 0 < length (turns (boxOf p) room t rest .text)
-unfolding turnsFrom turn
-turns-some p room t [] l h = absurd (omega arith)
-turns-some p room t (b ∷ bs) l h =
-    rw (le-ltb room 2113 h) (followed-some (turn (boxOf p) t (b ∷ bs) .last) (turn (boxOf p) t (b ∷ bs)) _ (line-some (called (boxOf p) t (b ∷ bs) .answer)))
-
 -- ---- the loop
 
 -- on a sound box before the script's rest from `at` on, what is left of the sheet is the lines of that rest
 pub record Going (p : Profile) (script : List ℕ) (t : Tables) (at total : ℕ) : Type 0 where
   pub sound : Sound t 1024
-  pub rest : drop total (sheet (boxOf p) script) ≡ linesLeft (boxOf p) t (drop at script)
+  pub rest : drop total (sheet (boxOf p) script) ≡ linesOf (boxOf p) t (drop at script)
   pub within : total ≤ length (sheet (boxOf p) script)
   pub small : total ≤ 23 + 65536 * at
 
 -- a fresh box and zeros
 pub begins : (p : Profile) (script : List ℕ) (head : ℕ) (b : BoxRecord) (log : LogTable) (escrow : EscrowTable) → b ≡ freshTables .box
     → log .rows ≡ freshTables .logRows → escrow .rows ≡ freshTables .escrowRows → length script ≤ 65536 → head ≡ length header
-    → Going p script (tablesOf b log escrow (replicate 4096 0) (replicate 1024 0) (replicate 4096 0) (replicate 4096 0)) 0 head
+    → Going p script (lentTables b (log .rows) (escrow .rows) (replicate 4096 0) (replicate 1024 0) (replicate 4096 0) (replicate 4096 0)) 0 head
 unfolding freshTables header bytesOf sheet
 begins p script head b log escrow e1 e2 e3 h e =
     rw (e1, e2, e3)
     (record {
       sound = fresh-box .sound;
-      rest = rw (le-ltb 65536 (length script) h) (drop-at header (linesLeft (boxOf p) freshTables script) head (sym e));
-      within = rw (le-ltb 65536 (length script) h) (omega (arith, e, length-append header (linesLeft (boxOf p) freshTables script)));
+      rest = rw (le-ltb 65536 (length script) h) (drop-at header (linesOf (boxOf p) freshTables script) head (sym e));
+      within = rw (le-ltb 65536 (length script) h) (omega (arith, e, length-append header (linesOf (boxOf p) freshTables script)));
       small = rw e (omega arith);
     })
 
-pub size-fits : {made defined : Turn} {before after : List ℕ} {size : ℕ} → TurnMade made defined before after size → size ≤ length after
-size-fits {defined = defined} {before} {after} {size} m =
-    omega (arith, m .front .count, ap length (m .front .bytes), length-append (defined .text) (drop size before))
+pub size-fits : {defined : Turn} {made : Tables} {rest : List ℕ} {done : ℕ} {before after : List ℕ} {size : ℕ}
+    → TurnMade defined made rest done before after size → size ≤ length after
+size-fits m = omega (arith, m .front .fits, front-length (m .front))
 
 -- the header
 pub head-part : (p : Profile) (script : List ℕ) {printed : ℕ} {bytes : List ℕ} → printed ≡ 0 → bytes ≡ header → NextPart (sheet (boxOf p) script) printed bytes
@@ -120,62 +97,63 @@ module _ (p : Profile) (script : List ℕ) (long : 65536 < length script) {print
   pub too-long-last : printed + length bytes ≡ length (sheet (boxOf p) script)
   too-long-last = rw (e1, e2, too-long) (sym (length-append header tooLong))
 
-to-the-end : (l : List ℕ) (at : ℕ) → take (length l - at) (drop at l) ≡ drop at l
-to-the-end l at = rw (← length-drop at l) (take-length (drop at l))
-
 module _ {p : Profile} {script : List ℕ} {t : Tables} {at total : ℕ} (g : Going p script t at total) where
-  left-over : length (sheet (boxOf p) script) ≡ total + length (linesLeft (boxOf p) t (drop at script))
+  left-over : length (sheet (boxOf p) script) ≡ total + length (linesOf (boxOf p) t (drop at script))
   left-over = omega (arith, g .within, ap length (g .rest), length-drop total (sheet (boxOf p) script))
 
-  pub done : length script ≤ at → total ≡ length (sheet (boxOf p) script)
-  unfolding linesFrom
-  done h =
-      let none : length (drop at script) ≡ 0 = omega (arith, length-drop at script) in
-      omega (arith, rw none at left-over)
+  pub done-with : length script ≤ at → total ≡ length (sheet (boxOf p) script)
+  unfolding linesOf recordsFrom answersFrom flat
+  done-with h = omega (arith, rw (drop-of-length-le script h) at left-over)
 
   module _ (left : at < length script) where
     -- turns that the code made on `&script[at..]`
-    module _ {made : Turn} {before after : List ℕ} {size : ℕ}
-        (turned : TurnMade made (turns (boxOf p) (length before) t (take (length script - at) (drop at script))) before after size)
+    module _ {made : Tables} {before after : List ℕ} {done size : ℕ}
+        (turned : TurnMade (turns (boxOf p) (length before) t (take (length script - at) (drop at script))) made (take (length script - at) (drop at script)) done before after size)
         (room-is : length before ≡ 65536) where
-      same : made ≡ turns (boxOf p) (length before) t (drop at script)
-      same = turned .same ∙ ap (turns (boxOf p) (length before) t) (to-the-end script at)
+      abbrev defined : Turn
+      defined = turns (boxOf p) (length before) t (drop at script)
 
-      written : Writes (boxOf p) made t (drop at script)
-      written = subst (λ (a : Turn). Writes (boxOf p) a t (drop at script)) (sym same) (turns-write p (length before) t (drop at script) (g .sound))
+      same : TurnMade defined made (drop at script) done before after size
+      same = rw (to-the-end script at) at turned
 
-      pub next-part : NextPart (sheet (boxOf p) script) total (made .text)
-      next-part =
-          part-of (made .text) _ (g .rest ∙ written .lines)
-          (subst (λ (a : Turn). 0 < length (a .text)) (sym same) (turns-some p (length before) t (drop at script) (omega (arith, length-drop at script)) (omega arith)))
+      some-left : 0 < length (drop at script)
+      some-left = omega (arith, length-drop at script)
+
+      abbrev goes-on : GoesOn defined (drop at script)
+      goes-on = turns-go-on p (length before) t (drop at script) (g .sound) some-left (omega arith)
+
+      abbrev writes : Writes (boxOf p) defined t (drop at script)
+      writes = turns-write p (length before) t (drop at script) (g .sound)
+
+      text : take size after ≡ defined .text
+      text = front-text (same .front)
+
+      lines : drop total (sheet (boxOf p) script) ≡ take size after ++ linesOf (boxOf p) made (drop (at + done) script)
+      lines = rw (text, same .same, ← drop-drop done at script, same .rest-left) (g .rest ∙ writes .lines)
+
+      pub next-part : NextPart (sheet (boxOf p) script) total (take size after)
+      next-part = part-of (take size after) _ lines (rw text (goes-on .some))
 
       -- lines are no longer than their buffer
-      pub short : length (made .text) ≤ 65536
-      short = omega (arith, turned .front .count, turned .front .fits, ap (λ (a : Turn). length (a .text)) (turned .same))
+      pub short : size ≤ 65536
+      short = omega (arith, turned .front .fits)
 
-      pub fits : length script ≤ 65536 → total + length (made .text) < 2 ^ 64
-      fits h = omega (arith, g .small, short)
+      pub fits : length script ≤ 65536 → total + length (take size after) < 2 ^ 64
+      fits h = omega (arith, g .small, short, length-take size after)
 
-      pub last-here : made .last ≡ true → total + length (made .text) ≡ length (sheet (boxOf p) script)
-      last-here e = omega (arith, left-over, simp length-append at (ap length (rw e at (written .lines))))
+      pub within-script : at + done ≤ length script
+      within-script = omega (arith, same .within, length-drop at script)
 
-      pub within-script : at + made .used ≤ length script
-      within-script = omega (arith, written .within, length-drop at script)
+      pub further : 0 < done
+      further = omega (arith, goes-on .less, ap length (same .rest-left), length-drop done (drop at script))
 
-      pub further : made .last ≡ false → at < at + made .used
-      further e =
-          omega (arith, turns-go-on p (length before) t (drop at script) (g .sound) (omega (arith, length-drop at script)) (omega arith) (subst (λ (a : Turn). a .last ≡ false) same e), ap (λ (a : Turn). a .used) same)
-
-      pub went-further : {next : ℕ} → next ≡ total + length (made .text) → made .last ≡ false
-          → Going p script (made .tables) (at + made .used) next
-      went-further {next} n e =
-          let more = linesLeft (boxOf p) (made .tables) (drop (made .used) (drop at script)) in
-          let lines : drop total (sheet (boxOf p) script) ≡ made .text ++ more = g .rest ∙ rw e at (written .lines) in
+      pub went-further : {next : ℕ} → next ≡ total + length (take size after) → Going p script made (at + done) next
+      went-further {next} n =
           record {
-            sound = written .sound;
+            sound = rw (same .same) (writes .sound);
             rest =
-                rw (n, ← drop-drop (length (made .text)) total (sheet (boxOf p) script), lines, ← drop-drop (made .used) at script)
-                (drop-at (made .text) more (length (made .text)) refl);
+                rw (n, ← drop-drop (length (take size after)) total (sheet (boxOf p) script), lines)
+                (drop-at (take size after) _ (length (take size after)) refl);
             within = omega (arith, n, part-within next-part);
-            small = omega (arith, n, g .small, further e, short);
+            small = omega (arith, n, g .small, further, short, length-take size after);
           }

@@ -46,8 +46,7 @@ fn read_script(script: &mut [u8]) -> Input
     Input::Bytes(n)
 }
 
-// The lines after the header, 65,536 bytes of them or fewer at a time, until no input is left, after a line that is the last,
-// or where writing fails.
+// The lines after the header, 65,536 bytes of them or fewer at a time, until no record is left or where writing fails.
 // `head` counts the header.
 fn run(profile: Profile, script: &[u8], head: Progress) -> Printed
     requires { ⌜ (length (now script) ≤ 65536) × (head .printed ≡ length header) ⌝ }
@@ -85,10 +84,7 @@ fn run(profile: Profile, script: &[u8], head: Progress) -> Printed
             return part;
         };
         so_far = more;
-        if lines.last {
-            return part;
-        }
-        at += lines.used;
+        at += lines.done;
     }
     Printed::UpTo(so_far)
 }

@@ -1,12 +1,14 @@
 // The reader of call records.
 ghost use mathlib.Core.Path.{_≡_};
-ghost use Prim.Native.Nat.{ℕ, _+_, _≤_, _<_, _^_};
+ghost use Prim.Native.Nat.{ℕ, _≤_, _<_};
 ghost use mathlib.Core.List.{List};
-ghost use lib.ListN.{length, take, drop};
+ghost use lib.ListN.{length};
+ghost use Rattle.record.specs.Call.{linkBy};
 ghost use Rattle.record.specs.Layout.{kindOf};
-ghost use Rattle.record.specs.Read.{fromLittle, read};
-ghost use Rattle.record.specs.Meaning.{bytesIn, callIn, readingIn, wayIn, numberIn, ByItsWay, PartWithin, CallWithin, ReadingWithin};
+ghost use Rattle.record.specs.Read.{read};
+ghost use Rattle.record.specs.Meaning.{bytesIn, linkIn, callIn, readingIn, PartWithin, CallWithin, ReadingWithin};
 ghost use Rattle.reader.specs.Scan.{takenIn, fieldAt, TakenWithin, threeIn, threeAt, ThreeWithin, callOf, contentsIn, fieldsIn};
+use buffers::number_at;
 use fnv::Tag;
 use record::Call;
 use record::Draw;
@@ -29,31 +31,6 @@ enum Taken {
 enum Three {
     Numbers(u64, u64, u64, usize),
     Cut { missing: usize },
-}
-
-// A byte, with its bound, whatever the index it was read at.
-fn wide(x: u8) -> u64
-    ensures { λ r. ⌜ r ≡ x ⌝ }
-    ensures { λ r. ⌜ r < 256 ⌝ }
-{
-    x as u64
-}
-
-// The number of `width` bytes, lowest first. The highest is taken in first.
-pub fn number_at(bytes: &[u8], at: usize, width: usize) -> u64
-    requires { ⌜ at + width ≤ length (now bytes) ⌝ }
-    requires { ⌜ width ≤ 8 ⌝ }
-    ensures { λ r. ⌜ r ≡ fromLittle (take width (drop at (now (bytes .entry)))) ⌝ }
-    ensures { λ r. ⌜ r < 256 ^ width ⌝ }
-{
-    let mut x: u64 = 0;
-    let mut i = 0;
-    while i < width {
-        let j = width - 1 - i;
-        x = x * 256 + wide(bytes[at + j]);
-        i += 1;
-    }
-    x
 }
 
 // The field at a position, if its bit stands.
@@ -97,8 +74,7 @@ fn three_at(bytes: &[u8], at: usize, map: u8, bit: u8, width: usize) -> Three
 
 // The number of a chain is a tag where its first way is 2, a handle where it is 3.
 fn first_link(way: u8, number: u64) -> First
-    ensures { λ r. ⌜ (wayIn r ≡ way) × (numberIn r ≡ number) ⌝ }
-    ensures { λ r. ⌜ ByItsWay r ⌝ }
+    ensures { λ r. ⌜ ((identity : ℕ) → linkIn identity r ≡ linkBy way identity number) ⌝ }
 {
     if way == 2 {
         return First::Logged(Tag(number));

@@ -6,3 +6,4 @@ pub mod RoundTrip
 pub mod Sizes
 pub mod Stores
 pub mod Writing
+pub mod LinkNumbers

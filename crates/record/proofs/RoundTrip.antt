@@ -36,11 +36,11 @@ module _ (k : Kind) (row : Row k) (f : Fields) (v : List ℕ) where
 pub reads-back : ReadsBack
 unfolding ReadsBack write recordIn
 reads-back c fit rest =
-    let (k, found, same) = made c in
+    let (k, found, same) = made c (fit .way) in
     let row = row-of found .0 in
     let own = sym (row .fills (filled c .fields) (filled c .bytes)) ∙ ap filled same in
     rw found
-    (read-record k row _ _ rest fit
+    (read-record k row _ _ rest (fit .fields)
     ∙ rw (ap (λ (x : Filled). x .fields) own, ap (λ (x : Filled). x .bytes) own, same))
 
 -- what the writer accepts fits: numbers that the map lacks are 0, and too many bytes are refused
@@ -77,7 +77,7 @@ writer-reads-back n k f v buffer found fit e =
     let c = k .call f v in
     let (few, is) = accepted-write (tooMany (k .map) (length v)) (ltb (length buffer) (length (write c))) (write c) buffer (rw found at e) in
     let row = row-of found .0 in
-    let fits : Fits c = rw (row .fills f v) (kept-fits (k .map) f v fit few) in
+    let fits : Fits c = record { fields = rw (row .fills f v) (kept-fits (k .map) f v fit few); way = row .way f v } in
     rw (found, is) (reads-back c fits (drop (length (write c)) buffer))
 
 kind-known : {P : Type 0} (total map : ℕ) (o : Option Kind) (bs : List ℕ) {c : Call} {used : ℕ}
@@ -119,7 +119,7 @@ one-record bs c used h e =
     rw (← call, ← left)
     (record {
       within = omega arith;
-      fits = rw (row .fills f v, b .absent, b .absent-bytes) (b .fit);
+      fits = record { fields = rw (row .fills f v, b .absent, b .absent-bytes) (b .fit); way = row .way f v };
       same =
           ap (take (length bs - length rest)) bytes
           ∙ take-at _ rest _ l

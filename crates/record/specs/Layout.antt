@@ -5,7 +5,7 @@ use mathlib.Core.List.{List, [], _∷_, _++_}
 use mathlib.Core.Option.{Option, none, some}
 use lib.Dec.{eqb}
 use Rattle.record.specs.declared.Fields.{Fields}
-use Rattle.record.specs.Call.{Call, create, exit, heapWrite, heapRead, sharedWrite, sharedRead, attest, check, protect, retrieve, report, handOver, chain, release}
+use Rattle.record.specs.Call.{linkBy, Call, create, exit, heapWrite, heapRead, sharedWrite, sharedRead, attest, check, protect, retrieve, report, handOver, chain, release}
 
 -- a bit of the map stands
 unfoldable pub stands : ℕ → ℕ → Bool
@@ -36,7 +36,7 @@ kinds =
     ∷ kind 12 0x2D (λ f v. retrieve (f .identity) (f .offset) (record { 0 = f .number }))
     ∷ kind 13 0x01 (λ f v. report)
     ∷ kind 14 0x03 (λ f v. handOver (f .place))
-    ∷ kind 15 0x67 (λ f v. chain (f .place) (f .identity) (f .number) v)
+    ∷ kind 15 0x67 (λ f v. chain (linkBy (f .place) (f .identity) (f .number)) v)
     ∷ kind 16 0x25 (λ f v. release (f .identity) (record { 0 = f .number }))
     ∷ []
 

@@ -1,6 +1,5 @@
 -- What each case of the code's enums means: document 01's numbers and values.
 use Prim.Native.Nat.{ℕ, _+_, _≤_}
-use mathlib.Core.Path.{_≡_}
 use mathlib.Core.List.{List}
 use lib.ListN.{length, take, drop}
 use Rattle.record.specs.declared.Part.{Part}
@@ -12,7 +11,7 @@ use Rattle.record.specs.declared.Reading as found
 use Rattle.record.specs.declared.Reading.the-variants.{Whole, Cut, UnknownKind, WrongMap}
 use Rattle.record.specs.declared.LegalMap as legal
 use Rattle.record.specs.declared.LegalMap.the-variants.{Map, NoSuchKind}
-use Rattle.record.specs.Call.{Call, create, exit, heapWrite, heapRead, sharedWrite, sharedRead, attest, check, protect, retrieve, report, handOver, chain, release}
+use Rattle.record.specs.Call.{Link, loggedLink, escrowedLink, strayLink, Call, create, exit, heapWrite, heapRead, sharedWrite, sharedRead, attest, check, protect, retrieve, report, handOver, chain, release}
 use Rattle.record.specs.Layout.{OrRefusal, gives, refuses}
 use Rattle.record.specs.Read.{Reading, whole, cut, unknown, wrongMap}
 
@@ -20,16 +19,11 @@ use Rattle.record.specs.Read.{Reading, whole, cut, unknown, wrongMap}
 unfoldable pub bytesIn : List ℕ → Part → List ℕ
 bytesIn bs p = take (p .count) (drop (p .start) bs)
 
--- the way and the number of a chain's first link
-unfoldable pub wayIn : First → ℕ
-wayIn (Logged g) = 2
-wayIn (Escrowed h) = 3
-wayIn (Neither w x) = w
-
-unfoldable pub numberIn : First → ℕ
-numberIn (Logged g) = g .0
-numberIn (Escrowed h) = h .0
-numberIn (Neither w x) = x
+-- a chain's first link, of this identity
+unfoldable pub linkIn : ℕ → First → Link
+linkIn i (Logged g) = loggedLink i g
+linkIn i (Escrowed h) = escrowedLink i h
+linkIn i (Neither w x) = strayLink w i x
 
 -- the call of a record's bytes
 unfoldable pub callIn : List ℕ → code.Call → Call
@@ -45,7 +39,7 @@ callIn bs (Protect i o n d) = protect i o n d
 callIn bs (Retrieve i o h) = retrieve i o h
 callIn bs Report = report
 callIn bs (HandOver p) = handOver p
-callIn bs (Chain i f v) = chain (wayIn f) i (numberIn f) (bytesIn bs v)
+callIn bs (Chain i f v) = chain (linkIn i f) (bytesIn bs v)
 callIn bs (Release i h) = release i h
 
 unfoldable pub readingIn : List ℕ → found.Reading → Reading
@@ -58,13 +52,7 @@ readingIn bs WrongMap = wrongMap
 unfoldable pub PartWithin : List ℕ → Part → Type 0
 PartWithin bs p = p .start + p .count ≤ length bs
 
--- a first link by neither has another way than 2 and 3
-unfoldable pub ByItsWay : First → Type 0
-ByItsWay (Logged g) = Unit {0}
-ByItsWay (Escrowed h) = Unit {0}
-ByItsWay (Neither w x) = (w ≡ 2 → ⊥) × (w ≡ 3 → ⊥)
-
--- what the reader promises of a call: its bytes field lies within the record, its first link is by its way
+-- what the reader promises of a call: its bytes field lies within the record
 unfoldable pub CallWithin : List ℕ → code.Call → Type 0
 CallWithin bs (Create p i) = Unit {0}
 CallWithin bs Exit = Unit {0}
@@ -78,7 +66,7 @@ CallWithin bs (Protect i o n d) = Unit {0}
 CallWithin bs (Retrieve i o h) = Unit {0}
 CallWithin bs Report = Unit {0}
 CallWithin bs (HandOver p) = Unit {0}
-CallWithin bs (Chain i f v) = PartWithin bs v × ByItsWay f
+CallWithin bs (Chain i f v) = PartWithin bs v
 CallWithin bs (Release i h) = Unit {0}
 
 unfoldable pub ReadingWithin : List ℕ → found.Reading → Type 0

@@ -2,10 +2,12 @@
 use Prim.Native.Nat.{ℕ, _+_, _≤_, _<_, _^_}
 use mathlib.Core.Path.{_≡_}
 use mathlib.Core.List.{List, [], _++_}
-use mathlib.Core.Option.{some}
+use mathlib.Core.Option.{Option, none, some}
 use lib.ListN.{length, getD, take}
+use Rattle.fnv.specs.declared.Tag.{Tag}
+use Rattle.record.specs.declared.Handle.{Handle}
 use Rattle.record.specs.declared.Fields.{Fields}
-use Rattle.record.specs.Call.{Call}
+use Rattle.record.specs.Call.{Link, loggedLink, escrowedLink, strayLink, linkBy, identityOf, Call, chain, firstIn}
 use Rattle.record.specs.Layout.{Kind, kindOf}
 use Rattle.record.specs.Read.{read, whole}
 use Rattle.record.specs.Write.{filled, write, writeOn}
@@ -19,8 +21,16 @@ pub record Fit (f : Fields) (v : List ℕ) : Type 0 where
   pub number : f .number < 2 ^ 64
   pub count : length v < 65536
 
-abbrev pub Fits : Call → Type 0
-Fits c = Fit (filled c .fields) (filled c .bytes)
+-- a chain's first link is by its way: one of way 2 is logged, one of way 3 is escrowed
+unfoldable pub ByItsWay : Option Link → Type 0
+ByItsWay none = Unit {0}
+ByItsWay (some (loggedLink i g)) = Unit {0}
+ByItsWay (some (escrowedLink i h)) = Unit {0}
+ByItsWay (some (strayLink w i x)) = (w ≡ 2 → ⊥) × (w ≡ 3 → ⊥)
+
+pub record Fits (c : Call) : Type 0 where
+  pub fields : Fit (filled c .fields) (filled c .bytes)
+  pub way : ByItsWay (firstIn c)
 
 -- every element is a byte
 abbrev pub Bytes : List ℕ → Type 0
@@ -49,3 +59,17 @@ pub record OneRecordOf (bs : List ℕ) (c : Call) (used : ℕ) : Type 0 where
 -- each call has one record
 unfoldable pub OneRecord : Type 0
 OneRecord = (bs : List ℕ) (c : Call) (used : ℕ) → Bytes bs → read bs ≡ whole c used → OneRecordOf bs c used
+
+-- the numbers in a chain's record: the first link's way, its identity, and its tag or handle
+pub record NumbersOf (k : Link) (way identity number : ℕ) : Type 0 where
+  pub place : (v : List ℕ) → filled (chain k v) .fields .place ≡ way
+  pub name : (v : List ℕ) → filled (chain k v) .fields .identity ≡ identity
+  pub tag-or-handle : (v : List ℕ) → filled (chain k v) .fields .number ≡ number
+  -- the link of these numbers is that link, and has that identity
+  pub named : linkBy way identity number ≡ k
+  pub owner : identityOf k ≡ identity
+
+-- way 2 goes with a tag, way 3 with a handle
+pub record LinksByNumbers : Type 0 where
+  pub logged : (identity : ℕ) (tag : Tag) → NumbersOf (loggedLink identity tag) 2 identity (tag .0)
+  pub escrowed : (identity : ℕ) (handle : Handle) → NumbersOf (escrowedLink identity handle) 3 identity (handle .0)

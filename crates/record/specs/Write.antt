@@ -7,7 +7,7 @@ use lib.ListN.{length, drop}
 use lib.Dec.{ltb}
 use Rattle.fnv.specs.Fnv.{little}
 use Rattle.record.specs.declared.Fields.{Fields}
-use Rattle.record.specs.Call.{Call, create, exit, heapWrite, heapRead, sharedWrite, sharedRead, attest, check, protect, retrieve, report, handOver, chain, release}
+use Rattle.record.specs.Call.{wayOf, identityOf, numberOf, Call, create, exit, heapWrite, heapRead, sharedWrite, sharedRead, attest, check, protect, retrieve, report, handOver, chain, release}
 use Rattle.record.specs.Layout.{Kind, stands, kindOf}
 
 -- a field where its bit stands
@@ -48,7 +48,7 @@ filled (protect i o n d) = fill 11 0 i o n (d .0) []
 filled (retrieve i o h) = fill 12 0 i o 0 (h .0) []
 filled report = fill 13 0 0 0 0 0 []
 filled (handOver p) = fill 14 p 0 0 0 0 []
-filled (chain w i x v) = fill 15 w i 0 0 x v
+filled (chain k v) = fill 15 (wayOf k) (identityOf k) 0 0 (numberOf k) v
 filled (release i h) = fill 16 0 i 0 0 (h .0) []
 
 unfoldable pub recordIn : Option Kind → Fields → List ℕ → List ℕ

@@ -13,6 +13,7 @@ ghost use Rattle.retrieval.specs.Narrow.{retrieveAnswer, retrieveHeaps};
 use buffers::put;
 use ideal::BoxRecord;
 use ideal::EscrowRow;
+use ideal::HEAP;
 use record::Handle;
 use state::Answer;
 use state::EscrowTable;
@@ -99,7 +100,7 @@ pub fn retrieve(
     }
     let from = entry.first as usize;
     let until = from + size;
-    let start = 256 * place + offset as usize;
+    let start = HEAP * place + offset as usize;
     put(&values[from..until], heaps, start);
     accepted(size as u64)
 }

@@ -20,7 +20,7 @@ pub fn escrow_row_at(rows: &[EscrowRow], i: usize) -> EscrowRow
     rows[i]
 }
 
-// As edit_log.
+// A row put, if put says so, and the rows after it lowered.
 pub fn edit_escrow(rows: &mut [EscrowRow], put: bool, at: usize, row: EscrowRow, fall: u16)
     requires { ⌜ Fits put at (length (now rows)) ⌝ }
     ensures { λ _. ⌜ now (rows .exit) ≡ edited escrowTable put at row fall (now (rows .entry)) ⌝ }
@@ -77,7 +77,7 @@ pub fn store_escrow(rows: &mut [EscrowRow], table: EscrowTable)
 {
     let held = escrow_rows_of(table);
     let mut i = 0;
-    while i < 64 {
+    while i < rows.len() {
         rows[i] = held[i];
         i = i + 1;
     }

@@ -5,13 +5,11 @@ ghost use Prim.Native.Nat.{_<_};
 ghost use lib.Dec.{eqb};
 ghost use lib.ListN.{length, getD};
 ghost use Rattle.ideal.specs.Tables.{logTable, freshTables};
-ghost use Rattle.state.specs.Edits.{edited, Fits};
+ghost use Rattle.state.specs.Edits.{withRow, Fits};
 ghost use Rattle.rows.specs.Unfit.{unfit, logClear};
 use ideal::LogRow;
 use state::LogTable;
-use state::falls_from;
 use state::fresh_log;
-use state::lower_log_row;
 
 pub fn log_row_at(rows: &[LogRow], i: usize) -> LogRow
     requires { ⌜ i < length (now rows) ⌝ }
@@ -20,18 +18,13 @@ pub fn log_row_at(rows: &[LogRow], i: usize) -> LogRow
     rows[i]
 }
 
-// A row put, if put says so, and the rows after it lowered.
-pub fn edit_log(rows: &mut [LogRow], put: bool, at: usize, row: LogRow, fall: u16)
+// A row put, if put says so.
+pub fn put_log_row(rows: &mut [LogRow], put: bool, at: usize, row: LogRow)
     requires { ⌜ Fits put at (length (now rows)) ⌝ }
-    ensures { λ _. ⌜ now (rows .exit) ≡ edited logTable put at row fall (now (rows .entry)) ⌝ }
+    ensures { λ _. ⌜ now (rows .exit) ≡ withRow put at row (now (rows .entry)) ⌝ }
 {
     if put {
         rows[at] = row;
-        let mut i = falls_from(at, fall, rows.len());
-        while i < rows.len() {
-            rows[i] = lower_log_row(rows[i], fall);
-            i = i + 1;
-        }
     }
 }
 
@@ -78,7 +71,7 @@ pub fn store_log(rows: &mut [LogRow], table: LogTable)
 {
     let held = log_rows_of(table);
     let mut i = 0;
-    while i < 64 {
+    while i < rows.len() {
         rows[i] = held[i];
         i = i + 1;
     }

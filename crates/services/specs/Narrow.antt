@@ -10,7 +10,7 @@ use lib.Dec.{eqb, ltb}
 use Rattle.ideal.specs.declared.BoxRecord.{BoxRecord}
 use Rattle.ideal.specs.State.{cleared}
 use Rattle.ideal.specs.Step.{Tests, accept, _then_, firstHolding}
-use Rattle.ideal.specs.Tables.{takenMap}
+use Rattle.ideal.specs.Tables.{heapStart, takenMap}
 use Rattle.ideal.specs.History.{ones}
 use Rattle.state.specs.declared.Answer.{Answer}
 use Rattle.state.specs.declared.Change.{Change}
@@ -74,7 +74,7 @@ unfoldable pub exitOn : BoxRecord → Change
 exitOn b = settledBox (firstHolding (exitTests b)) b (boxAfterExit b) 0
 
 unfoldable pub exitHeaps : BoxRecord → List ℕ → List ℕ
-exitHeaps b heaps = settled (firstHolding (exitTests b)) heaps (sets heaps (256 * b .running) cleared)
+exitHeaps b heaps = settled (firstHolding (exitTests b)) heaps (sets heaps (heapStart (b .running)) cleared)
 
 -- services + 256 times log rows + 65,536 times escrow rows; the services are the standing bits of the map
 abbrev pub counts : BoxRecord → ℕ

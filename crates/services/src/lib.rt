@@ -8,6 +8,7 @@ ghost use Rattle.ideal.specs.Tables.{takenMap};
 ghost use Rattle.services.specs.Narrow.{Leaving, createOn, exitOn, exitHeaps, reportOn};
 use buffers::clear;
 use ideal::BoxRecord;
+use ideal::HEAP;
 use state::Answer;
 use state::Change;
 use state::accepted;
@@ -54,8 +55,8 @@ pub fn exit_running(held: BoxRecord, heaps: &mut [u8]) -> Change
         return refuse(held, 4);
     }
     let p = place as usize;
-    let first = 256 * p;
-    let end = first + 256;
+    let first = HEAP * p;
+    let end = first + HEAP;
     clear(&mut heaps[first..end]);
     let left = held.taken - bit_of(place);
     let mut next = held;

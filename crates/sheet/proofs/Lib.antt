@@ -1,4 +1,4 @@
 pub mod Texts
 pub mod Readings
-pub mod Loops
+pub mod Scripts
 pub mod Examples

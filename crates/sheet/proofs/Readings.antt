@@ -12,7 +12,7 @@ use Rattle.record.specs.Call.{Call}
 use Rattle.record.specs.Layout.{Kind, stands, kindOf}
 use Rattle.record.specs.Read.{Reading, refused, whole, cut, unknown, wrongMap, fromLittle, field, contents, bytesField, fields, readFields, readKind, afterMap, read}
 use Rattle.lists.proofs.Bools.{by-cases}
-use Rattle.sheet.specs.Sheet.{lastCode}
+use Rattle.sheet.specs.Records.{lastCode}
 
 -- of a record in at most so many bytes
 pub data Ends (most : ℕ) : Reading → Type 0 where

@@ -1,4 +1,4 @@
+pub mod Records
 pub mod Sheet
 pub mod Stored
-pub mod Turns
 pub mod Examples

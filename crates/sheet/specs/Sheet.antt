@@ -1,14 +1,16 @@
 -- The answer sheet of a script (document 01, "The answer sheet"), by a box.
-use Prim.Native.Nat.{ℕ, zero, suc, _+_, _-_, _/_, _%_}
+use Prim.Native.Nat.{ℕ, zero, suc, _+_, _-_, _/_, _%_, _≤_, _<_}
+use mathlib.Core.Path.{_≡_}
 use Prim.Native.Char.{code}
 use Prim.Native.String.{String}
-use mathlib.Core.Bool.{Bool, cond, _||_}
-use mathlib.Core.List.{List, [], _∷_, _++_}
-use lib.ListN.{length, drop}
-use lib.Dec.{eqb, ltb}
+use mathlib.Core.Bool.{cond}
+use mathlib.Core.List.{List, [], _∷_, _++_, map}
+use lib.ListN.{length}
+use lib.Dec.{ltb}
 use Rattle.ideal.specs.Step.{Answer}
-use Rattle.ideal.specs.Tables.{Tables, freshTables}
-use Rattle.ideal.specs.Box.{Element, given, Result}
+use Rattle.ideal.specs.Tables.{Tables, freshTables, flat}
+use Rattle.ideal.specs.Box.{Element, Result, answersFrom}
+use Rattle.sheet.specs.Records.{recordsOf}
 
 -- ---- text
 
@@ -57,27 +59,19 @@ tooLong = bytesOf "16 0 0 -\n"
 
 -- ---- the script
 
--- a line with 1, 2 or 3 is the last
-unfoldable pub lastCode : ℕ → Bool
-lastCode n = eqb n 1 || (eqb n 2 || eqb n 3)
-
-unfoldable pub stops : Answer → Bool
-stops a = lastCode (a .code)
-
 module _ (box : Tables → Element → Result) where
-  -- the call of the record that stands at the front of what is left of a script
-  unfoldable pub called : Tables → List ℕ → Result
-  called t rest = box t (given rest 1024)
+  -- a line a record
+  unfoldable pub linesOf : Tables → List ℕ → List ℕ
+  linesOf t script = flat (map line (answersFrom box t (recordsOf 1024 script)))
 
-  -- a line a record, until no input is left or after a line with 1, 2 or 3; at most n lines
-  unfoldable pub linesFrom : ℕ → Tables → List ℕ → List ℕ
-  linesFrom zero t rest = []
-  linesFrom (suc n) t [] = []
-  linesFrom (suc n) t (b ∷ bs) =
-      let r = called t (b ∷ bs) in
-      let later = linesFrom n (r .tables) (drop (r .answer .used) (b ∷ bs)) in
-      line (r .answer) ++ cond (stops (r .answer)) [] later
-
-  -- The whole sheet. A record that is not the last uses a byte at least, so there are no more lines than bytes.
+  -- the whole sheet
   unfoldable pub sheet : List ℕ → List ℕ
-  sheet script = header ++ cond (ltb 65536 (length script)) tooLong (linesFrom (length script) freshTables script)
+  sheet script = header ++ cond (ltb 65536 (length script)) tooLong (linesOf freshTables script)
+
+  -- a script of 65,536 bytes or fewer has its records' lines, and a longer one the line for it alone
+  pub record SheetOf (script : List ℕ) : Type 0 where
+    pub records : length script ≤ 65536 → sheet script ≡ header ++ linesOf freshTables script
+    pub longer : 65536 < length script → sheet script ≡ header ++ tooLong
+
+abbrev pub SheetLimit : Type 0
+SheetLimit = (box : Tables → Element → Result) (script : List ℕ) → SheetOf box script

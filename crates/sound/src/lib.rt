@@ -6,26 +6,20 @@ ghost use lib.ListN.{length};
 ghost use Rattle.ideal.specs.declared.BoxRecord.{BoxRecord};
 ghost use Rattle.state.specs.declared.LogTable.{LogTable};
 ghost use Rattle.state.specs.declared.EscrowTable.{EscrowTable};
-ghost use Rattle.ideal.specs.Soundness.{sizesRight, sound};
-ghost use Rattle.soundness.specs.Parts.{tablesOf, Counted, Lent, RestBlank};
+ghost use Rattle.ideal.specs.Soundness.{tablesSized, sizesRight, sound};
+ghost use Rattle.ideal.specs.Tables.{lentTables};
+ghost use Rattle.state.specs.Parts.{RestBlank};
+ghost use Rattle.soundness.specs.Parts.{Counted, Lent};
 use ideal::BoxRecord;
-pub use soundescrow::escrow_rest_blank;
 use soundescrow::escrow_sound;
-pub use soundlog::log_rest_blank;
 use soundlog::log_sound;
 use soundplaces::places_sound;
 use state::EscrowTable;
 use state::LogTable;
 
-// Whether the lent buffers are of their sizes, whatever else the tables hold.
-pub fn sizes_right(
-    heaps: &[u8],
-    shared: &[u8],
-    log_values: &[u8],
-    escrow_values: &[u8],
-    output: &[u8],
-) -> bool
-    ensures { λ r. ⌜ ((b : BoxRecord) (log : LogTable) (escrow : EscrowTable) → Counted b log escrow → r ≡ sizesRight (tablesOf b log escrow (now (heaps .entry)) (now (shared .entry)) (now («log_values» .entry)) (now («escrow_values» .entry))) (length (now (output .entry)))) ⌝ }
+// Whether the lent buffers of the tables are of their sizes, whatever else the tables hold.
+pub fn tables_sized(heaps: &[u8], shared: &[u8], log_values: &[u8], escrow_values: &[u8]) -> bool
+    ensures { λ r. ⌜ ((b : BoxRecord) (log : LogTable) (escrow : EscrowTable) → Counted b log escrow → r ≡ tablesSized (lentTables b (log .rows) (escrow .rows) (now (heaps .entry)) (now (shared .entry)) (now («log_values» .entry)) (now («escrow_values» .entry)))) ⌝ }
 {
     if heaps.len() != 4096 {
         return false;
@@ -36,10 +30,20 @@ pub fn sizes_right(
     if log_values.len() != 4096 {
         return false;
     }
-    if escrow_values.len() != 4096 {
-        return false;
-    }
-    output.len() == 1024
+    escrow_values.len() == 4096
+}
+
+// The same, and whether the output buffer is of its size.
+pub fn sizes_right(
+    heaps: &[u8],
+    shared: &[u8],
+    log_values: &[u8],
+    escrow_values: &[u8],
+    output: &[u8],
+) -> bool
+    ensures { λ r. ⌜ ((b : BoxRecord) (log : LogTable) (escrow : EscrowTable) → Counted b log escrow → r ≡ sizesRight (lentTables b (log .rows) (escrow .rows) (now (heaps .entry)) (now (shared .entry)) (now («log_values» .entry)) (now («escrow_values» .entry))) (length (now (output .entry)))) ⌝ }
+{
+    tables_sized(heaps, shared, log_values, escrow_values) && output.len() == 1024
 }
 
 // Whether the box is sound, whatever the shared memory holds. Called once the sizes are right and the unused rows blank.
@@ -52,7 +56,7 @@ pub fn box_sound(
     escrow_values: &[u8],
 ) -> bool
     requires { ⌜ Lent (now heaps) (now «log_values») (now «escrow_values») × RestBlank held (log .rows) (escrow .rows) ⌝ }
-    ensures { λ r. ⌜ ((shared : List ℕ) → r ≡ sound (tablesOf held log escrow (now (heaps .entry)) shared (now («log_values» .entry)) (now («escrow_values» .entry)))) ⌝ }
+    ensures { λ r. ⌜ ((shared : List ℕ) → r ≡ sound (lentTables held (log .rows) (escrow .rows) (now (heaps .entry)) shared (now («log_values» .entry)) (now («escrow_values» .entry)))) ⌝ }
 {
     if !places_sound(held, heaps) {
         return false;

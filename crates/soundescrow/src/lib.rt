@@ -126,26 +126,3 @@ pub fn escrow_sound(rows: [EscrowRow; 64], values: &[u8], used: Used) -> bool
     }
     handles_differ(rows, n)
 }
-
-// Whether the rows from n on are blank: by their bits, as in the log.
-pub fn escrow_rest_blank(rows: [EscrowRow; 64], n: usize) -> bool
-    ensures { λ r. ⌜ r ≡ every (escrowTable .isBlank) (drop n rows) ⌝ }
-{
-    let mut sources: u64 = 0;
-    let mut recipients: u64 = 0;
-    let mut handles: u64 = 0;
-    let mut places: u64 = 0;
-    let mut marks: u64 = 0;
-    let mut i: usize = n;
-    while i < 64 {
-        let row = rows[i];
-        sources = sources | row.source;
-        recipients = recipients | row.recipient;
-        handles = handles | row.handle.0;
-        places = places | (row.first as u64 + row.length as u64 * 65536);
-        marks = marks | row.mark as u64;
-        i += 1;
-    }
-    let all = (((sources | recipients) | handles) | places) | marks;
-    all == 0
-}

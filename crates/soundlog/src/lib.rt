@@ -186,23 +186,3 @@ pub fn log_sound(rows: [LogRow; 64], values: &[u8], used: Used) -> bool
     }
     pairs_differ(rows, n, values)
 }
-
-// Whether the rows from n on are blank: their bits are joined with no way out of the loop, each field by itself, so that one
-// join need not wait for another; first and length are read as one.
-pub fn log_rest_blank(rows: [LogRow; 64], n: usize) -> bool
-    ensures { λ r. ⌜ r ≡ every (logTable .isBlank) (drop n rows) ⌝ }
-{
-    let mut identities: u64 = 0;
-    let mut tags: u64 = 0;
-    let mut places: u64 = 0;
-    let mut i: usize = n;
-    while i < 64 {
-        let row = rows[i];
-        identities = identities | row.identity;
-        tags = tags | row.tag.0;
-        places = places | (row.first as u64 + row.length as u64 * 65536);
-        i += 1;
-    }
-    let all = (identities | tags) | places;
-    all == 0
-}

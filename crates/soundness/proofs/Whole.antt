@@ -12,14 +12,14 @@ use Rattle.ideal.specs.declared.Used.{Used}
 use Rattle.ideal.specs.declared.LogRow.{LogRow}
 use Rattle.ideal.specs.declared.EscrowRow.{EscrowRow}
 use Rattle.ideal.specs.State.{Entry, every}
-use Rattle.ideal.specs.Tables.{Tables, RowsOf, logTable, escrowTable, takenMap, chunks, entryOf, entriesOf, stateOf}
-use Rattle.ideal.specs.Soundness.{pass, sizesRight, runningTaken, allZero, emptyHeapsZero, chained, short, hasIdentity, hasIdentities, rightTag, rightMark, carriesLength, sameHandle, soundTests, sound}
+use Rattle.ideal.specs.Tables.{Tables, RowsOf, logTable, escrowTable, takenMap, chunks, entryOf, entriesOf, stateOf, lentTables}
+use Rattle.ideal.specs.Soundness.{pass, tablesSized, sizesRight, runningTaken, allZero, emptyHeapsZero, chained, short, hasIdentity, hasIdentities, rightTag, rightMark, carriesLength, sameHandle, soundTests, sound}
 use Rattle.lists.proofs.Bools.{and-left, and-right, and-true}
 use Rattle.ideal.proofs.Table.{Stands}
 use Rattle.ideal.proofs.Facts.{Facts, facts, facts-sound, every-both}
 use Rattle.state.specs.declared.LogTable.{LogTable}
 use Rattle.state.specs.declared.EscrowTable.{EscrowTable}
-use Rattle.soundness.specs.Parts.{tablesOf, Counted, Lent}
+use Rattle.soundness.specs.Parts.{Counted, Lent}
 use Rattle.soundness.specs.Tests.{placesSound, differBefore, rowsSound, bytesAndRows, tableSound, logRowRight, sameLogged, logSound, escrowRowRight, escrowSound}
 use Rattle.soundness.proofs.Rows.{every-entry, chain-within, rows-clauses}
 use Rattle.soundness.proofs.Differ.{pairs-differ, handles-differ}
@@ -113,7 +113,7 @@ module _ (b : BoxRecord) (log : LogTable) (escrow : EscrowTable) (heaps logValue
 
   -- soundness says nothing of shared memory
   t : Tables
-  t = tablesOf b log escrow heaps (replicate 1024 0) logValues escrowValues
+  t = lentTables b (log .rows) (escrow .rows) heaps (replicate 1024 0) logValues escrowValues
 
   parts-facts : parts ≡ true → Facts t
   unfolding parts t placesSound logSound escrowSound stateOf pass
@@ -176,7 +176,7 @@ module _ (b : BoxRecord) (log : LogTable) (escrow : EscrowTable) (heaps logValue
       rw (f .runs, eq-eqb _ _ (f .map), f .empty, l, e)
 
   sizes : sizesRight t 1024 ≡ true
-  unfolding sizesRight pass t
+  unfolding sizesRight tablesSized pass t
   sizes =
       rw (
         eq-eqb _ _ (counted .identities),
@@ -194,6 +194,6 @@ module _ (b : BoxRecord) (log : LogTable) (escrow : EscrowTable) (heaps logValue
 
   pub sound-parts : (shared : List ℕ)
       → placesSound b heaps && (logSound (log .rows) logValues (b .log) && escrowSound (escrow .rows) escrowValues (b .escrow))
-      ≡ sound (tablesOf b log escrow heaps shared logValues escrowValues)
+      ≡ sound (lentTables b (log .rows) (escrow .rows) heaps shared logValues escrowValues)
   unfolding parts t sound soundTests stateOf
   sound-parts shared = parts-sound

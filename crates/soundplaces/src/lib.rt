@@ -9,6 +9,7 @@ ghost use Rattle.ideal.specs.Soundness.{allZero, emptyHeapsZero};
 ghost use Rattle.soundness.specs.Tests.{placesSound};
 use buffers::all_zero;
 use ideal::BoxRecord;
+use ideal::HEAP;
 
 // Whether none runs, or the running place's bit of the map stands. Not by the identity at that place: an element at a place
 // that is not known beforehand keeps the whole record in memory.
@@ -60,8 +61,8 @@ fn heaps_sound(identities: [u64; 16], heaps: &[u8]) -> bool
 {
     let mut i: usize = 0;
     while i < 16 {
-        let start = 256 * i;
-        let end = start + 256;
+        let start = HEAP * i;
+        let end = start + HEAP;
         if !heap_sound(identities[i], &heaps[start..end]) {
             return false;
         }

@@ -54,21 +54,21 @@ module _ {t : Tables} {values : List ℕ} (left : Stored → Tables) (same : (a 
 -- ---- one row and its value more
 
 abbrev pub onLog : Tables → Stored → Tables
-onLog t x = changed t (x .change) (t .heaps) (t .shared) (x .values) (t .escrowValues)
+onLog t x = changed (x .change) (t .logRows) (t .escrowRows) (t .heaps) (t .shared) (x .values) (t .escrowValues)
 
 abbrev pub onEscrow : Tables → Stored → Tables
-onEscrow t x = changed t (x .change) (t .heaps) (t .shared) (t .logValues) (x .values)
+onEscrow t x = changed (x .change) (t .logRows) (t .escrowRows) (t .heaps) (t .shared) (t .logValues) (x .values)
 
 -- a row is put only where one is not used
 module _ (b : BoxRecord) (escrow : List EscrowRow) (values v : List ℕ) where
   pub log-edits : (k : LogKey) → b .log .rows < 64 → let c = more logStore b values k v .change in EditsBy b escrow (c .held) (c .edits)
   unfolding more
-  log-edits k h = record { log = one-put _ _ _ (length v) _ refl h; escrow = counted (none-put _ _ _ refl) }
+  log-edits k h = record { log = one-put _ _ _ (length v) _ refl h; escrow = counted (none-put _ _ _ refl) refl }
 
   pub escrow-edits : (k : EscrowKey) → b .escrow .rows < 64
       → let c = more escrowStore b values k v .change in EditsBy b escrow (c .held) (c .edits)
   unfolding more
-  escrow-edits k h = record { log = none-put _ _ _ refl; escrow = counted (one-put _ _ _ (length v) _ refl h) }
+  escrow-edits k h = record { log = none-put _ _ _ refl; escrow = counted (one-put _ _ _ (length v) _ refl h) refl }
 
 module _ (s : State) where
   pub log-added : (e : Logged) → Room (tables s .box .log) (length (e .value))
@@ -76,7 +76,7 @@ module _ (s : State) where
       ≡ onLog (tables s) (more logStore (tables s .box) (tables s .logValues) (e .key) (e .value))
   unfolding tables boxRecord more
   log-added e room =
-      rw (counts-raised (s .log) e, row-added log-lawful (s .log) e (room .row), no-fall log-lawful, value-added (s .log) e (room .bytes))
+      rw (counts-raised (s .log) e, row-added log-lawful (s .log) e (room .row), value-added (s .log) e (room .bytes))
 
   pub escrow-added : (e : Escrowed) → Room (tables s .box .escrow) (length (e .value))
       → tables (withCommon s (s .shared) (s .log) (s .escrow ++ (e ∷ [])))

@@ -1,4 +1,4 @@
--- What a call makes of the tables: a row put into one of them at an index, with the first bytes of the rows after it lowered, or nothing.
+-- What a call makes of the tables: a row put into one of them at an index, in the escrow with the first bytes of the rows after it lowered, or nothing.
 use Prim.Native.Nat.{ℕ, _+_, _-_, _<_}
 use mathlib.Core.Path.{_≡_}
 use mathlib.Core.Bool.{Bool, true, false, cond}
@@ -11,7 +11,7 @@ use Rattle.ideal.specs.declared.Used.{Used}
 use Rattle.ideal.specs.declared.LogRow.{LogRow}
 use Rattle.ideal.specs.declared.EscrowRow.{EscrowRow}
 use Rattle.ideal.specs.State.{LogKey, EscrowKey}
-use Rattle.ideal.specs.Tables.{RowsOf, Tables, logTable, escrowTable}
+use Rattle.ideal.specs.Tables.{RowsOf, Tables, logTable, escrowTable, lentTables}
 use Rattle.ideal.specs.OneCall.{spentRow}
 use Rattle.state.specs.declared.LogTable.{LogTable}
 use Rattle.state.specs.declared.EscrowTable.{EscrowTable}
@@ -23,6 +23,10 @@ use Rattle.state.specs.declared.Change.{Change}
 use Rattle.state.specs.Answers.{refusedWith, acceptedWith, settled}
 
 -- ---- the rows after an edit
+
+-- a row put at an index, or none
+abbrev pub withRow : {Row : Type 0} → (put : Bool) → (at : ℕ) → Row → List Row → List Row
+withRow put at row rows = cond put (set rows at row) rows
 
 module _ {Row Key : Type 0} (t : RowsOf Row Key) where
   -- the first byte falls by n, to 0 at most: a blank row stays blank
@@ -38,7 +42,7 @@ module _ {Row Key : Type 0} (t : RowsOf Row Key) where
   edited put at row fall rows = cond put (loweredFrom (at + 1) fall (set rows at row)) rows
 
 abbrev pub logEdited : LogEdit → List LogRow → List LogRow
-logEdited e rows = edited logTable (e .put) (e .at) (e .row) (e .fall) rows
+logEdited e rows = withRow (e .put) (e .at) (e .row) rows
 
 abbrev pub escrowEdited : EscrowEdit → List EscrowRow → List EscrowRow
 escrowEdited e rows = edited escrowTable (e .put) (e .at) (e .row) (e .fall) rows
@@ -56,7 +60,7 @@ Fits put at n = put ≡ true → at < n
 -- ---- no edit: a blank row stands for the row
 
 abbrev pub noLogEdit : LogEdit
-noLogEdit = record { put = false; at = 0; row = logTable .blank; fall = 0 }
+noLogEdit = record { put = false; at = 0; row = logTable .blank }
 
 abbrev pub noEscrowEdit : EscrowEdit
 noEscrowEdit = record { put = false; at = 0; row = escrowTable .blank; fall = 0 }
@@ -70,12 +74,10 @@ unchanged b a = record { held = b; edits = noEdits; answer = a }
 
 -- ---- the edits of a call, by the box records before and after it, and the escrow's rows before it
 
--- a row is put where the used rows are one more, at the first that was not used; else a blank row stands for it. No first byte
--- falls
-pub record EditBy {Row : Type 0} (blank : Row) (before after : Used) (put : Bool) (at : ℕ) (row : Row) (fall : ℕ) : Type 0 where
+-- a row is put where the used rows are one more, at the first that was not used; else a blank row stands for it
+pub record EditBy {Row : Type 0} (blank : Row) (before after : Used) (put : Bool) (at : ℕ) (row : Row) : Type 0 where
   pub rises : put ≡ ltb (before .rows) (after .rows)
   pub place : at ≡ cond put (before .rows) 0
-  pub still : fall ≡ 0
   pub fits : Fits put at 64
   pub none : put ≡ false → row ≡ blank
 
@@ -95,13 +97,13 @@ pub record Spends (rows : List EscrowRow) (before after : Used) (e : EscrowEdit)
   pub edit : e ≡ spending (e .at) (getD rows (e .at) (escrowTable .blank))
   pub counts : after ≡ lessened before (getD rows (e .at) (escrowTable .blank) .length)
 
--- by the counts, or by a release, of the escrow's rows before it
+-- by the counts, and no first byte falls, or by a release, of the escrow's rows before it
 pub data EscrowEditBy (rows : List EscrowRow) (before after : Used) (e : EscrowEdit) : Type 0 where
-  counted : EditBy (escrowTable .blank) before after (e .put) (e .at) (e .row) (e .fall) → EscrowEditBy rows before after e
+  counted : EditBy (escrowTable .blank) before after (e .put) (e .at) (e .row) → e .fall ≡ 0 → EscrowEditBy rows before after e
   spends : Spends rows before after e → EscrowEditBy rows before after e
 
 pub record EditsBy (before : BoxRecord) (rows : List EscrowRow) (after : BoxRecord) (e : Edits) : Type 0 where
-  pub log : EditBy (logTable .blank) (before .log) (after .log) (e .log .put) (e .log .at) (e .log .row) (e .log .fall)
+  pub log : EditBy (logTable .blank) (before .log) (after .log) (e .log .put) (e .log .at) (e .log .row)
   pub escrow : EscrowEditBy rows (before .escrow) (after .escrow) (e .escrow)
 
 -- ---- a call on one table
@@ -141,7 +143,7 @@ logStore =
       table = logTable;
       used = λ b. b .log;
       held = λ b u. record { taken = b .taken; running = b .running; identities = b .identities; log = u; escrow = b .escrow };
-      put = λ at row. record { log = record { put = true; at = at; row = row; fall = 0 }; escrow = noEscrowEdit };
+      put = λ at row. record { log = record { put = true; at = at; row = row }; escrow = noEscrowEdit };
       number = λ k. k .tag .0;
     }
 
@@ -171,16 +173,7 @@ more s b values k v =
     })
     (sets values (used .bytes) v)
 
--- ---- the host's tables after a call, with the bytes that it leaves
+-- ---- the host's tables after a call, with the rows before it and the bytes that it leaves
 
-abbrev pub changed : Tables → Change → (heaps shared logValues escrowValues : List ℕ) → Tables
-changed t c heaps shared logValues escrowValues =
-    record {
-      box = c .held;
-      heaps = heaps;
-      shared = shared;
-      logRows = logEdited (c .edits .log) (t .logRows);
-      logValues = logValues;
-      escrowRows = escrowEdited (c .edits .escrow) (t .escrowRows);
-      escrowValues = escrowValues;
-    }
+abbrev pub changed : Change → List LogRow → List EscrowRow → (heaps shared logValues escrowValues : List ℕ) → Tables
+changed c log escrow = lentTables (c .held) (logEdited (c .edits .log) log) (escrowEdited (c .edits .escrow) escrow)

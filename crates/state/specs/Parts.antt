@@ -1,23 +1,24 @@
 -- Parts of the box that several calls are given, and what their callers show of them.
-use Prim.Native.Nat.{ℕ, _+_, _*_, _≤_}
+use Prim.Native.Nat.{ℕ, _+_, _≤_}
 use mathlib.Core.Path.{_≡_}
+use mathlib.Core.Bool.{true}
 use mathlib.Core.List.{List}
-use lib.ListN.{length, getD, take}
+use lib.ListN.{length, getD, take, drop}
 use Rattle.ideal.specs.declared.BoxRecord.{BoxRecord}
 use Rattle.ideal.specs.declared.LogRow.{LogRow}
 use Rattle.ideal.specs.declared.EscrowRow.{EscrowRow}
 use Rattle.ideal.specs.declared.Used.{Used}
-use Rattle.ideal.specs.State.{Logged, Escrowed}
-use Rattle.ideal.specs.Tables.{RowsOf, logTable, escrowTable, entriesOf}
+use Rattle.ideal.specs.State.{Logged, Escrowed, every}
+use Rattle.ideal.specs.Tables.{heapStart, RowsOf, logTable, escrowTable, entriesOf}
 use Rattle.ideal.specs.Fit.{RowsFit}
 
 -- the identity of the program that runs
 abbrev pub callerOf : BoxRecord → ℕ
 callerOf b = getD (b .identities) (b .running) 0
 
--- place p has the 256 bytes from 256 times p
+-- a byte of the running place's heap
 abbrev pub heapByte : BoxRecord → ℕ → ℕ
-heapByte b o = 256 * b .running + o
+heapByte b o = heapStart (b .running) + o
 
 -- the log and the escrow that the used rows stand for
 abbrev pub logOf : BoxRecord → List LogRow → List ℕ → List Logged
@@ -31,3 +32,8 @@ pub record TableFits {Row Key : Type 0} (t : RowsOf Row Key) (used : Used) (rows
   pub few : used .rows ≤ 64
   pub size : length values ≡ 4096
   pub fit : RowsFit t rows (used .rows) (length values)
+
+-- the unused rows are blank
+pub record RestBlank (b : BoxRecord) (logRows : List LogRow) (escrowRows : List EscrowRow) : Type 0 where
+  pub logBlank : every (logTable .isBlank) (drop (b .log .rows) logRows) ≡ true
+  pub escrowBlank : every (escrowTable .isBlank) (drop (b .escrow .rows) escrowRows) ≡ true

@@ -3,7 +3,7 @@ ghost use mathlib.Core.Path.{_≡_};
 ghost use Prim.Native.Nat.{_+_, _-_, _<_};
 ghost use mathlib.Core.Bool.{cond};
 ghost use lib.Dec.{eqb};
-ghost use Rattle.ideal.specs.Tables.{logTable, escrowTable};
+ghost use Rattle.ideal.specs.Tables.{escrowTable};
 ghost use Rattle.state.specs.Edits.{unchanged, noLogEdit, noEscrowEdit, lowered, logWith, escrowWith, Fits};
 use crate::Answer;
 use crate::Change;
@@ -16,7 +16,6 @@ use crate::fresh::blank_escrow_row;
 use crate::fresh::blank_log_row;
 use ideal::BoxRecord;
 use ideal::EscrowRow;
-use ideal::LogRow;
 
 pub fn no_log_edit() -> LogEdit
     ensures { λ r. ⌜ r ≡ noLogEdit ⌝ }
@@ -26,7 +25,6 @@ pub fn no_log_edit() -> LogEdit
         put: false,
         at: 0,
         row,
-        fall: 0,
     }
 }
 
@@ -66,14 +64,6 @@ fn fallen(first: u16, fall: u16) -> u16
     first - fall
 }
 
-pub fn lower_log_row(row: LogRow, fall: u16) -> LogRow
-    ensures { λ r. ⌜ r ≡ lowered logTable fall row ⌝ }
-{
-    let mut low = row;
-    low.first = fallen(row.first, fall);
-    low
-}
-
 pub fn lower_escrow_row(row: EscrowRow, fall: u16) -> EscrowRow
     ensures { λ r. ⌜ r ≡ lowered escrowTable fall row ⌝ }
 {
@@ -100,15 +90,8 @@ pub fn log_edited(log: LogTable, edit: LogEdit) -> LogTable
     if edit.put {
         let at = edit.at;
         let row = edit.row;
-        let fall = edit.fall;
         let mut more = log;
         more.rows[at] = row;
-        let mut i = falls_from(at, fall, 64);
-        while i < 64 {
-            let old = more.rows[i];
-            more.rows[i] = lower_log_row(old, fall);
-            i += 1;
-        }
         return more;
     }
     log

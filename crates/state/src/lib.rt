@@ -7,7 +7,6 @@ pub use editing::escrow_edited;
 pub use editing::falls_from;
 pub use editing::log_edited;
 pub use editing::lower_escrow_row;
-pub use editing::lower_log_row;
 pub use editing::no_escrow_edit;
 pub use editing::no_log_edit;
 pub use editing::unedited;
@@ -40,15 +39,15 @@ pub struct Answer {
     pub shown: u16,
 }
 
-// A row that goes into the log at an index, if put says so, and by how much the first bytes of the rows after it fall. What
-// comes back of a table is this, and not the table: a table by value is moved whole.
+// A row that goes into the log at an index, if put says so. What comes back of a table is this, and not the table: a table
+// by value is moved whole.
 pub struct LogEdit {
     pub put: bool,
     pub at: usize,
     pub row: LogRow,
-    pub fall: u16,
 }
 
+// A row that goes into the escrow, and by how much the first bytes of the rows after it fall.
 pub struct EscrowEdit {
     pub put: bool,
     pub at: usize,

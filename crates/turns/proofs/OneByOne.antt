@@ -1,334 +1,251 @@
 -- One turn after another: what turns write, and what the loop over the records keeps.
 use Prim.Native.Nat.{ℕ, zero, suc, _+_, _-_, _≤_, _<_}
 use mathlib.Core.Path.{_≡_, refl, sym, ap, subst, _∙_}
-use mathlib.Core.Bool.{Bool, true, false, cond}
-use mathlib.Core.List.{List, [], _∷_, _++_, append-assoc, append-nil}
-use native.Mathlib.Nat.{add-zero, add-assoc, zero-add, sub-zero}
+use mathlib.Core.List.{List, [], _∷_, _++_, map, append-assoc, append-nil}
+use native.Mathlib.Nat.{sub-zero}
 use native.Mathlib.Omega.{arith}
-use lib.ListN.{length, take, drop, length-append, length-drop, take-append-drop}
+use lib.ListN.{length, take, drop, length-append, length-drop, drop-of-length-le}
 use lib.Dec.{ltb}
-use lib.Seq.{take-length, drop-length, drop-drop, length-take-le, take-append-add, take-append-le, drop-append-add, drop-at}
-use borrow.Author.Tests.{lt-ltb, le-ltb}
+use lib.Seq.{take-length, drop-length, drop-drop, take-at, drop-at}
+use borrow.Author.Tests.{lt-ltb, le-ltb, ltb-true, ltb-false}
 use Rattle.ideal.specs.declared.Profile.{Profile}
-use Rattle.ideal.specs.Tables.{Tables}
-use Rattle.ideal.specs.Box.{Element, Result}
+use Rattle.ideal.specs.Tables.{Tables, flat}
+use Rattle.ideal.specs.Box.{Element, given, Result, elementAt, tablesFrom, answersFrom}
 use Rattle.ideal.specs.LevelOne.{boxOf}
 use Rattle.ideal.specs.Layouts.{Sound}
-use Rattle.lists.proofs.Bools.{clash}
+use Rattle.lists.proofs.Bools.{by-cases}
+use Rattle.sheet.specs.Records.{leftAfter, recordsFrom, recordsOf}
+use Rattle.sheet.specs.Sheet.{bytesOf, spaced, shownText, line, linesOf}
 use Rattle.sheet.specs.Stored.{AtFront}
-use Rattle.sheet.specs.Turns.{Turn, turn}
-use Rattle.sheet.proofs.Loops.{uses, within, called-sound, shorter, turn-by-turn}
-use Rattle.turns.specs.Next.{TurnMade, noTurn, followed, turnsFrom, turns, Writes, TurnsWrite, TurnsGoOn}
+use Rattle.sheet.proofs.Scripts.{left-less, record-by-record, stays-sound-in}
+use Rattle.turns.specs.Next.{Turn, lineMost, fitting, turn, turnsOver, turns, Writes, TurnsWrite, TurnsGoOn, TurnMade}
 
--- what holds of either turn holds of the one that a test picks
-picked : (P : Turn → Type 0) (b : Bool) (x y : Turn) → (b ≡ true → P x) → (b ≡ false → P y) → P (cond b x y)
-picked P true x y f g = f refl
-picked P false x y f g = g refl
+-- ---- turns, of any box
 
-unless : (b : Bool) (x y z : Turn) → (b ≡ false → y ≡ z) → cond b x y ≡ cond b x z
-unless true x y z f = refl
-unless false x y z f = f refl
+abbrev noTurn : Tables → List ℕ → Turn
+noTurn t rest = record { tables = t; text = []; left = rest }
 
-fits : (room : ℕ) (x y : Turn) → 2113 ≤ room → cond (ltb room 2113) x y ≡ y
-fits room x y h = rw (le-ltb room 2113 h)
+-- turns behind a text
+abbrev behindText : List ℕ → Turn → Turn
+behindText text later = record { tables = later .tables; text = text ++ later .text; left = later .left }
 
--- ---- turns
-
-module _ (p : Profile) where
-  abbrev box : Tables → Element → Result
-  box = boxOf p
-
-  none-left : (n room : ℕ) (t : Tables) → turnsFrom box n room t [] ≡ noTurn t
-  unfolding turnsFrom
-  none-left zero room t = refl
-  none-left (suc n) room t = refl
-
-  -- from the number of bytes left on, a higher count of turns alters nothing
-  enough : (m n room : ℕ) (t : Tables) (rest : List ℕ) → Sound t 1024 → length rest ≤ m → length rest ≤ n
-      → turnsFrom box m room t rest ≡ turnsFrom box n room t rest
-  unfolding turnsFrom
-  enough zero n room t [] h l k = sym (none-left n room t)
-  enough zero n room t (b ∷ bs) h l k = absurd (omega arith)
-  enough (suc m) n room t [] h l k = sym (none-left n room t)
-  enough (suc m) zero room t (b ∷ bs) h l k = absurd (omega arith)
-  enough (suc m) (suc n) room t (b ∷ bs) h l k =
-      let a = turn box t (b ∷ bs) in
-      ap (cond (ltb room 2113) (noTurn t))
-      (unless (a .last) a _ _ λ e.
-      ap (followed a)
-      (enough m n (room - length (a .text)) (a .tables) (drop (a .used) (b ∷ bs)) (called-sound p t (b ∷ bs) h) (shorter p t b bs m h e l) (shorter p t b bs n h e k)))
-
-  nothing-left : (room : ℕ) (t : Tables) (rest : List ℕ) → length rest ≡ 0 → turns box room t rest ≡ noTurn t
-  unfolding turnsFrom
-  nothing-left room t [] h = refl
-  nothing-left room t (b ∷ bs) h = absurd (omega arith)
+module _ (box : Tables → Element → Result) where
+  nothing-left : (room : ℕ) (t : Tables) → turns box room t [] ≡ noTurn t []
+  unfolding recordsFrom turnsOver answersFrom fitting tablesFrom elementAt flat
+  nothing-left room t = refl
 
   -- where the next line might not fit there is no turn
-  no-room : (room : ℕ) (t : Tables) (rest : List ℕ) → room < 2113 → turns box room t rest ≡ noTurn t
-  unfolding turnsFrom
+  no-room : (room : ℕ) (t : Tables) (rest : List ℕ) → room < lineMost → turns box room t rest ≡ noTurn t rest
+  unfolding recordsFrom turnsOver answersFrom fitting tablesFrom elementAt flat
   no-room room t [] h = refl
-  no-room room t (b ∷ bs) h = rw (lt-ltb room 2113 h)
+  no-room room t (b ∷ bs) h = rw (lt-ltb room lineMost h)
+
+  first-call : (room : ℕ) (t : Tables) (e : Element) (es : List Element) → lineMost ≤ room
+      → let r = box t e in
+      let text = line (r .answer) in
+      turnsOver box room t (e ∷ es) ≡ behindText text (turnsOver box (room - length text) (r .tables) es)
+  unfolding turnsOver answersFrom fitting tablesFrom elementAt flat
+  first-call room t e es h = rw (le-ltb room lineMost h)
 
   -- one turn, and those after it
-  first-turn : (room : ℕ) (t : Tables) (rest : List ℕ) → Sound t 1024 → 0 < length rest → 2113 ≤ room
+  first-turn : (room : ℕ) (t : Tables) (rest : List ℕ) → 0 < length rest → lineMost ≤ room
       → let a = turn box t rest in
-      turns box room t rest ≡ cond (a .last) a (followed a (turns box (room - length (a .text)) (a .tables) (drop (a .used) rest)))
-  unfolding turnsFrom
-  first-turn room t [] s l h = absurd (omega arith)
-  first-turn room t (b ∷ bs) s l h =
-      let a = turn box t (b ∷ bs) in
-      let rest = drop (a .used) (b ∷ bs) in
-      fits room (noTurn t) _ h
-      ∙ unless (a .last) a _ _ λ e.
-      ap (followed a)
-      (enough (length bs) (length rest) (room - length (a .text)) (a .tables) rest (called-sound p t (b ∷ bs) s) (shorter p t b bs (length bs) s e (omega arith)) (omega arith))
+      turns box room t rest ≡ behindText (a .text) (turns box (room - length (a .text)) (a .tables) (a .left))
+  unfolding turn
+  first-turn room t [] l h = absurd (omega arith)
+  first-turn room t (b ∷ bs) l h =
+      ap (turnsOver box room t) (record-by-record 1024 b bs)
+      ∙ first-call room t (given (b ∷ bs) 1024) (recordsOf 1024 (leftAfter (b ∷ bs))) h
 
-  -- ---- what turns write
+  first-lines : (t : Tables) (b : ℕ) (bs : List ℕ)
+      → let a = turn box t (b ∷ bs) in
+      linesOf box t (b ∷ bs) ≡ a .text ++ linesOf box (a .tables) (a .left)
+  unfolding linesOf turn answersFrom flat
+  first-lines t b bs = ap (λ es. flat (map line (answersFrom box t es))) (record-by-record 1024 b bs)
 
-  none-written : {t : Tables} {rest : List ℕ} → Sound t 1024 → Writes box (noTurn t) t rest
-  none-written s = record { lines = refl; sound = s; within = omega arith }
+-- ---- what turns write
 
-  one-written : (t : Tables) (b : ℕ) (bs : List ℕ) → Sound t 1024 → Writes box (turn box t (b ∷ bs)) t (b ∷ bs)
-  one-written t b bs s =
-      record { lines = turn-by-turn p t b bs s; sound = called-sound p t (b ∷ bs) s; within = within p t (b ∷ bs) s }
+module _ (p : Profile) where
+  none-written : (t : Tables) (rest : List ℕ) → Sound t 1024 → Writes (boxOf p) (noTurn t rest) t rest
+  none-written t rest s = record { lines = refl; sound = s; within = omega arith }
 
-  more-written : {t : Tables} {rest : List ℕ} (a later : Turn) → Writes box a t rest → a .last ≡ false
-      → Writes box later (a .tables) (drop (a .used) rest) → Writes box (followed a later) t rest
-  more-written {rest = rest} a later w l v =
+  abbrev one : Tables → List ℕ → Turn
+  one = turn (boxOf p)
+
+  one-sound : (t : Tables) (rest : List ℕ) → Sound t 1024 → Sound (one t rest .tables) 1024
+  unfolding turn
+  one-sound t rest s = stays-sound-in p t (given rest 1024) s
+
+  one-less : (t : Tables) (rest : List ℕ) → 0 < length rest → length (one t rest .left) < length rest
+  unfolding turn
+  one-less t [] h = absurd (omega arith)
+  one-less t (b ∷ bs) h = omega (arith, left-less b bs)
+
+  more-written : (t : Tables) (b : ℕ) (bs : List ℕ) (later : Turn) → let a = one t (b ∷ bs) in
+      Writes (boxOf p) later (a .tables) (a .left) → Writes (boxOf p) (behindText (a .text) later) t (b ∷ bs)
+  more-written t b bs later w =
+      let a = one t (b ∷ bs) in
       record {
         lines =
-            rw (← drop-drop (later .used) (a .used) rest, append-assoc (a .text) (later .text))
-            (rw l at (w .lines) ∙ ap (λ (ls : List ℕ). a .text ++ ls) (v .lines));
-        sound = v .sound;
-        within = omega (arith, w .within, v .within, length-drop (a .used) rest);
+            rw (append-assoc (a .text) (later .text))
+            (first-lines (boxOf p) t b bs ∙ ap (λ (ls : List ℕ). a .text ++ ls) (w .lines));
+        sound = w .sound;
+        within = omega (arith, w .within, one-less t (b ∷ bs) (omega arith));
       }
 
-  from-writes : (n room : ℕ) (t : Tables) (rest : List ℕ) → Sound t 1024 → Writes box (turnsFrom box n room t rest) t rest
-  unfolding turnsFrom
-  from-writes zero room t rest s = none-written s
-  from-writes (suc n) room t [] s = none-written s
-  from-writes (suc n) room t (b ∷ bs) s =
-      let a = turn box t (b ∷ bs) in
-      let one = one-written t b bs s in
-      let holds : Turn → Type 0 = λ made. Writes box made t (b ∷ bs) in
-      picked holds (ltb room 2113) (noTurn t) _ (λ e. none-written s) λ e.
-      picked holds (a .last) a _ (λ l. one) λ l.
-      more-written a _ one l (from-writes n (room - length (a .text)) (a .tables) (drop (a .used) (b ∷ bs)) (one .sound))
+  from-writes : (n room : ℕ) (t : Tables) (rest : List ℕ) → length rest ≤ n → Sound t 1024
+      → Writes (boxOf p) (turns (boxOf p) room t rest) t rest
+  from-writes zero room t [] l s = rw (nothing-left (boxOf p) room t) (none-written t [] s)
+  from-writes zero room t (b ∷ bs) l s = absurd (omega arith)
+  from-writes (suc n) room t [] l s = rw (nothing-left (boxOf p) room t) (none-written t [] s)
+  from-writes (suc n) room t (b ∷ bs) l s =
+      by-cases (ltb room lineMost)
+      (λ e. rw (no-room (boxOf p) room t (b ∷ bs) (ltb-true room lineMost e)) (none-written t (b ∷ bs) s))
+      (λ e.
+      let a = one t (b ∷ bs) in
+      rw (first-turn (boxOf p) room t (b ∷ bs) (omega arith) (ltb-false room lineMost e))
+      (more-written t b bs _ (from-writes n (room - length (a .text)) (a .tables) (a .left) (omega (arith, one-less t (b ∷ bs) (omega arith))) (one-sound t (b ∷ bs) s))))
 
 pub turns-write : TurnsWrite
-turns-write p room t rest s = from-writes p (length rest) room t rest s
+turns-write p room t rest s = from-writes p (length rest) room t rest (omega arith) s
+
+after-some : (s t : List ℕ) → 0 < length t → 0 < length (s ++ t)
+after-some s t h = omega (arith, length-append s t)
+
+one-some : (p : Profile) (t : Tables) (rest : List ℕ) → 0 < length (one p t rest .text)
+unfolding turn line bytesOf
+one-some p t rest =
+    let a = boxOf p t (given rest 1024) .answer in
+    after-some (spaced (a .code) ++ spaced (a .number) ++ spaced (a .used) ++ shownText (a .shown)) (bytesOf "\n") (omega arith)
 
 pub turns-go-on : TurnsGoOn
 turns-go-on p room t rest s left h =
-    let a = turn (boxOf p) t rest in
-    let goes-on : Turn → Type 0 = λ made. made .last ≡ false → 0 < made .used in
-    subst goes-on (sym (first-turn p room t rest s left h))
-    (picked goes-on (a .last) a _ (λ l e. clash _ l e) λ l e. omega (arith, uses p t rest s l))
+    let a = one p t rest in
+    let later = turns (boxOf p) (room - length (a .text)) (a .tables) (a .left) in
+    let w = turns-write p (room - length (a .text)) (a .tables) (a .left) (one-sound p t rest s) in
+    rw (first-turn (boxOf p) room t rest left h)
+    (record {
+      some = omega (arith, length-append (a .text) (later .text), one-some p t rest);
+      less = omega (arith, w .within, one-less p t rest left);
+    })
 
 -- ---- the loop over the records
 
-to-the-end : (l : List ℕ) (at : ℕ) → take (length l - at) (drop at l) ≡ drop at l
+pub to-the-end : (l : List ℕ) (at : ℕ) → take (length l - at) (drop at l) ≡ drop at l
 to-the-end l at = rw (← length-drop at l) (take-length (drop at l))
 
 pub part-length : (l : List ℕ) (at : ℕ) → length (take (length l - at) (drop at l)) ≡ length l - at
 part-length l at = ap length (to-the-end l at) ∙ length-drop at l
 
-abbrev so-far : Tables → ℕ → List ℕ → Turn
-so-far t used text = record { tables = t; text = text; used = used; last = false }
-
--- after some turns, none of them the last: they and those that are left are the turns of the definition
-pub record Kept (p : Profile) (room : ℕ) (t₀ : Tables) (rest : List ℕ) (t : Tables) (used : ℕ) (text : List ℕ) : Type 0 where
-  pub sound : Sound t 1024
-  pub within : used ≤ length rest
-  pub same : followed (so-far t used text) (turns (boxOf p) (room - length text) t (drop used rest)) ≡ turns (boxOf p) room t₀ rest
-
-pub begins : {p : Profile} {room : ℕ} {t : Tables} {rest : List ℕ} → Sound t 1024 → Kept p room t rest t 0 []
-begins {p} {room} {t} {rest} s =
-    record {
-      sound = s;
-      within = omega arith;
-      same = rw (sub-zero room, zero-add (turns (boxOf p) room t rest .used)) refl;
-    }
-
-module _ {p : Profile} {room : ℕ} {t₀ t : Tables} {rest text : List ℕ} {used : ℕ} (k : Kept p room t₀ rest t used text) where
-  no-more : turns (boxOf p) (room - length text) t (drop used rest) ≡ noTurn t → so-far t used text ≡ turns (boxOf p) room t₀ rest
-  no-more e =
-      (λ i. so-far t (sym (add-zero used) i) (sym (append-nil text) i)) ∙ ap (followed (so-far t used text)) (sym e) ∙ k .same
-
-  pub none-more : length rest ≤ used → so-far t used text ≡ turns (boxOf p) room t₀ rest
-  none-more h = no-more (nothing-left p (room - length text) t (drop used rest) (omega (arith, length-drop used rest)))
-
-  pub no-room-more : room - length text < 2113 → so-far t used text ≡ turns (boxOf p) room t₀ rest
-  no-room-more h = no-more (no-room p (room - length text) t (drop used rest) h)
-
-  -- a turn that the code made on `&rest[used..]`
-  module _ (left : used < length rest) (room-left : 2113 ≤ room - length text) {made : Turn}
-      (on-part : made ≡ turn (boxOf p) t (take (length rest - used) (drop used rest))) where
-    made-here : made ≡ turn (boxOf p) t (drop used rest)
-    made-here = on-part ∙ ap (turn (boxOf p) t) (to-the-end rest used)
-
-    abbrev after : Turn
-    after = record { tables = made .tables; text = text ++ made .text; used = used + made .used; last = made .last }
-
-    abbrev left-after : List ℕ
-    left-after = drop (made .used) (drop used rest)
-
-    abbrev later : Turn
-    later = turns (boxOf p) (room - length text - length (made .text)) (made .tables) left-after
-
-    next-turn : turns (boxOf p) (room - length text) t (drop used rest) ≡ cond (made .last) made (followed made later)
-    next-turn =
-        subst (λ (a : Turn). turns (boxOf p) (room - length text) t (drop used rest) ≡ cond (a .last) a (followed a (turns (boxOf p) (room - length text - length (a .text)) (a .tables) (drop (a .used) (drop used rest))))) (sym made-here)
-        (first-turn p (room - length text) t (drop used rest) (k .sound) (omega (arith, length-drop used rest)) room-left)
-
-    pub used-within : used + made .used ≤ length rest
-    used-within = omega (arith, length-drop used rest, ap (λ (a : Turn). a .used) made-here, within p t (drop used rest) (k .sound))
-
-    pub closer : made .last ≡ false → 0 < made .used
-    closer e = omega (arith, uses p t (drop used rest) (k .sound) (subst (λ (a : Turn). a .last ≡ false) made-here e), ap (λ (a : Turn). a .used) made-here)
-
-    pub ended : made .last ≡ true → after ≡ turns (boxOf p) room t₀ rest
-    ended e = ap (followed (so-far t used text)) (sym (next-turn ∙ ap (λ (l : Bool). cond l made (followed made later)) e)) ∙ k .same
-
-    same-later : turns (boxOf p) (room - length (text ++ made .text)) (made .tables) (drop (used + made .used) rest) ≡ later
-    same-later =
-        let rooms : room - length (text ++ made .text) ≡ room - length text - length (made .text) = omega (arith, length-append text (made .text)) in
-        rw (rooms, ← drop-drop (made .used) used rest)
-
-    pub went-on : made .last ≡ false → Kept p room t₀ rest (made .tables) (used + made .used) (text ++ made .text)
-    went-on e =
-        record {
-          sound = subst (λ (a : Turn). Sound (a .tables) 1024) (sym made-here) (called-sound p t (drop used rest) (k .sound));
-          within = used-within;
-          same =
-              ap (followed (so-far (made .tables) (used + made .used) (text ++ made .text))) same-later
-              ∙ (λ i. record {
-                tables = later .tables;
-                text = append-assoc text (made .text) (later .text) i;
-                used = add-assoc used (made .used) (later .used) i;
-                last = later .last;
-              })
-              ∙ ap (followed (so-far t used text)) (sym (next-turn ∙ ap (λ (l : Bool). cond l made (followed made later)) e))
-              ∙ k .same;
-        }
-
 -- ---- the buffer of their lines
 
--- so many bytes of a buffer are written, the others unaltered
-pub record Front (before out : List ℕ) (size : ℕ) : Type 0 where
-  pub fits : size ≤ length out
-  pub whole : length out ≡ length before
-  pub beyond : drop size out ≡ drop size before
+pub front-length : {text before after : List ℕ} {size : ℕ} → AtFront text before after size → length after ≡ length before
+front-length {text} {before} {size = size} f =
+    omega (arith, f .count, f .fits, ap length (f .bytes), length-append text (drop size before), length-drop size before)
 
-pub at-front : {before out : List ℕ} {size : ℕ} → Front before out size → AtFront (take size out) before out size
-at-front {before} {out} {size} f =
-    record {
-      count = sym (length-take-le size out (f .fits));
-      fits = omega (arith, f .fits, f .whole);
-      bytes = sym (ap (λ (l : List ℕ). take size out ++ l) (sym (f .beyond)) ∙ take-append-drop size out);
-    }
+pub front-text : {text before after : List ℕ} {size : ℕ} → AtFront text before after size → take size after ≡ text
+front-text {text} {before} {size = size} f = rw (f .bytes) (take-at text (drop size before) size (sym (f .count)))
 
 -- a line that is written behind others
-module _ {before out text after : List ℕ} {size n : ℕ} (f : Front before out size)
+module _ {lines before out text after : List ℕ} {size n : ℕ} (f : AtFront lines before out size)
     (line : AtFront text (take (length out - size) (drop size out)) after n) where
-  abbrev part : List ℕ
-  part = take (length out - size) (drop size out)
-
-  -- nothing is beyond the part
-  none-beyond : drop (length out - size) (drop size out) ≡ []
-  none-beyond = rw (← length-drop size out) (drop-length (drop size out))
-
-  abbrev tail : List ℕ
-  tail = drop (length out - size) (drop size out)
-
   abbrev next-out : List ℕ
-  next-out = take size out ++ (after ++ tail)
+  next-out = take size out ++ (after ++ drop (length out - size) (drop size out))
 
-  start : length (take size out) ≡ size
-  start = length-take-le size out (f .fits)
+  unaltered : drop size out ≡ drop size before
+  unaltered = rw (f .bytes) (drop-at lines (drop size before) size (sym (f .count)))
 
-  after-length : length after ≡ length out - size
-  after-length =
-      omega (arith, ap length (line .bytes), length-append text (drop n part), length-drop n part, line .count, line .fits, part-length out size)
+  nothing-beyond : drop (length out - size) (drop size out) ≡ []
+  nothing-beyond = rw (← length-drop size out) (drop-length (drop size out))
 
-  next-length : length next-out ≡ length out
-  next-length =
-      omega (arith, length-append (take size out) (after ++ tail), length-append after tail, start, after-length, ap length none-beyond, f .fits)
-
-  pub longer : take (size + n) next-out ≡ take size out ++ take n after
-  longer =
-      ap (λ (m : ℕ). take (m + n) next-out) (sym start) ∙ take-append-add (take size out) (after ++ tail) n
-      ∙ ap (λ (l : List ℕ). take size out ++ l) (take-append-le n after tail (omega (arith, line .fits, after-length, part-length out size)))
-
-  unaltered : drop (size + n) next-out ≡ drop (size + n) before
-  unaltered =
-      ap (λ (m : ℕ). drop (m + n) next-out) (sym start) ∙ drop-append-add (take size out) (after ++ tail) n
-      ∙ ap (λ (l : List ℕ). drop n (after ++ l)) none-beyond ∙ ap (drop n) (append-nil after ∙ line .bytes)
-      ∙ drop-at text (drop n part) n (sym (line .count)) ∙ ap (drop n) (to-the-end out size ∙ f .beyond) ∙ drop-drop n size before
-
-  pub behind : Front before next-out (size + n)
+  behind : AtFront (lines ++ text) before next-out (size + n)
   behind =
       record {
-        fits = omega (arith, line .fits, part-length out size, f .fits, next-length);
-        whole = next-length ∙ f .whole;
-        beyond = unaltered;
+        count = omega (arith, f .count, line .count, length-append lines text);
+        fits = omega (arith, line .fits, part-length out size, front-length f, f .fits);
+        bytes =
+            rw (front-text f, nothing-beyond, append-nil after, line .bytes, to-the-end out size, unaltered, drop-drop n size before, append-assoc lines text)
+            refl;
       }
+
+  pub longer : AtFront (take (size + n) next-out) before next-out (size + n)
+  longer = rw (front-text behind) behind
 
 -- ---- both
 
--- after some turns, none of them the last, with their lines at the front of the buffer
-pub record Going (p : Profile) (out₀ : List ℕ) (t₀ : Tables) (rest : List ℕ) (t : Tables) (used : ℕ) (out : List ℕ) (size : ℕ) : Type 0 where
-  pub kept : Kept p (length out₀) t₀ rest t used (take size out)
-  pub front : Front out₀ out size
+-- after some turns, with their lines at the front of the buffer: behind them, the turns that are left are those of the definition
+pub record Going (p : Profile) (out₀ : List ℕ) (t₀ : Tables) (rest : List ℕ) (t : Tables) (done : ℕ) (out : List ℕ) (size : ℕ) : Type 0 where
+  pub sound : Sound t 1024
+  pub within : done ≤ length rest
+  pub front : AtFront (take size out) out₀ out size
+  pub same : behindText (take size out) (turns (boxOf p) (length out - size) t (drop done rest)) ≡ turns (boxOf p) (length out₀) t₀ rest
 
 pub starts : {p : Profile} {out : List ℕ} {t : Tables} {rest : List ℕ} → Sound t 1024 → Going p out t rest t 0 out 0
-starts s = record { kept = begins s; front = record { fits = omega arith; whole = refl; beyond = refl } }
+starts {out = out} s =
+    record { sound = s; within = omega arith; front = record { count = refl; fits = omega arith; bytes = refl }; same = rw (sub-zero (length out)) refl }
 
-made-of : {made defined : Turn} {before out : List ℕ} {size : ℕ} → made ≡ defined → made .text ≡ take size out → Front before out size
-    → TurnMade made defined before out size
-made-of {before = before} {out} {size} e text f =
-    record { same = e; front = subst (λ (a : Turn). AtFront (a .text) before out size) e (rw text (at-front f)) }
+module _ {p : Profile} {out₀ : List ℕ} {t₀ : Tables} {rest : List ℕ} {t : Tables} {done : ℕ} {out : List ℕ} {size : ℕ}
+    (g : Going p out₀ t₀ rest t done out size) where
+  -- where no turn is left
+  ended : turns (boxOf p) (length out - size) t (drop done rest) ≡ noTurn t (drop done rest)
+      → TurnMade (turns (boxOf p) (length out₀) t₀ rest) t rest done out₀ out size
+  ended e =
+      let all : record { tables = t; text = take size out; left = drop done rest } ≡ turns (boxOf p) (length out₀) t₀ rest =
+      (λ i. record { tables = t; text = sym (append-nil (take size out)) i; left = drop done rest })
+      ∙ ap (behindText (take size out)) (sym e) ∙ g .same in
+      record {
+        same = ap (λ (a : Turn). a .tables) all;
+        rest-left = ap (λ (a : Turn). a .left) all;
+        within = g .within;
+        front = subst (λ (a : Turn). AtFront (a .text) out₀ out size) all (g .front);
+      }
 
-module _ {p : Profile} {out₀ : List ℕ} {t₀ : Tables} {rest : List ℕ} {t : Tables} {used : ℕ} {out : List ℕ} {size : ℕ}
-    (g : Going p out₀ t₀ rest t used out size) where
-  room-is : length out₀ - length (take size out) ≡ length out - size
-  room-is = omega (arith, g .front .whole, length-take-le size out (g .front .fits))
+  pub at-end : length rest ≤ done → TurnMade (turns (boxOf p) (length out₀) t₀ rest) t rest done out₀ out size
+  at-end h =
+      ended
+      (rw (drop-of-length-le rest h) (nothing-left (boxOf p) (length out - size) t))
 
-  pub at-end : length rest ≤ used → TurnMade (so-far t used (take size out)) (turns (boxOf p) (length out₀) t₀ rest) out₀ out size
-  at-end h = made-of (none-more (g .kept) h) refl (g .front)
+  pub at-room : length out - size < lineMost → TurnMade (turns (boxOf p) (length out₀) t₀ rest) t rest done out₀ out size
+  at-room h = ended (no-room (boxOf p) (length out - size) t (drop done rest) h)
 
-  pub at-room : length out - size < 2113 → TurnMade (so-far t used (take size out)) (turns (boxOf p) (length out₀) t₀ rest) out₀ out size
-  at-room h = made-of (no-room-more (g .kept) (omega (arith, room-is))) refl (g .front)
+  -- a turn that the code made on `&rest[done..]` and `&mut out[size..]`
+  module _ (left : done < length rest) (room : lineMost ≤ length out - size) {made : Tables} {after : List ℕ} {used n : ℕ}
+      (turned : TurnMade (turn (boxOf p) t (take (length rest - done) (drop done rest))) made (take (length rest - done) (drop done rest)) used
+      (take (length out - size) (drop size out)) after n) where
+    abbrev here : Turn
+    here = turn (boxOf p) t (drop done rest)
 
-  -- a turn that the code made on `&rest[used..]` and `&mut out[size..]`
-  module _ (left : used < length rest) (room : 2113 ≤ length out - size) {made : Turn} {after : List ℕ} {n : ℕ} (text : made .text ≡ take n after)
-      (turned : TurnMade made (turn (boxOf p) t (take (length rest - used) (drop used rest))) (take (length out - size) (drop size out)) after n) where
-    enough-room : 2113 ≤ length out₀ - length (take size out)
-    enough-room = omega (arith, room-is)
+    made-here : TurnMade here made (drop done rest) used (take (length out - size) (drop size out)) after n
+    made-here = rw (to-the-end rest done) at turned
 
-    texts : take size out ++ made .text ≡ take (size + n) (next-out (g .front) (turned .front))
-    texts = ap (λ (l : List ℕ). take size out ++ l) text ∙ sym (longer (g .front) (turned .front))
-
-    pub further : used + made .used ≤ length rest
-    further = used-within (g .kept) left enough-room (turned .same)
-
-    pub some-used : made .last ≡ false → 0 < made .used
-    some-used = closer (g .kept) left enough-room (turned .same)
+    pub further : done + used ≤ length rest
+    further = omega (arith, length-drop done rest, made-here .within)
 
     pub more-fits : size + n ≤ length out
-    more-fits = omega (arith, behind (g .front) (turned .front) .fits, behind (g .front) (turned .front) .whole, g .front .whole)
+    more-fits = omega (arith, longer (g .front) (turned .front) .fits, front-length (g .front))
 
-    pub goes-on : made .last ≡ false → Going p out₀ t₀ rest (made .tables) (used + made .used) (next-out (g .front) (turned .front)) (size + n)
-    goes-on e =
+    some-left : 0 < length (drop done rest)
+    some-left = omega (arith, length-drop done rest)
+
+    pub some-done : 0 < used
+    some-done = omega (arith, ap length (made-here .rest-left), length-drop used (drop done rest), one-less p t (drop done rest) some-left)
+
+    pub goes-on : Going p out₀ t₀ rest made (done + used) (next-out (g .front) (turned .front)) (size + n)
+    goes-on =
+        let text = here .text in
+        let f = longer (g .front) (turned .front) in
+        let later = turns (boxOf p) (length out - size - length text) (here .tables) (here .left) in
+        let texts : take (size + n) (next-out (g .front) (turned .front)) ≡ take size out ++ text =
+        front-text (behind (g .front) (made-here .front)) in
+        let rooms : length (next-out (g .front) (turned .front)) - (size + n) ≡ length out - size - length text =
+        omega (arith, front-length f, front-length (g .front), made-here .front .count) in
         record {
-          kept = subst (Kept p (length out₀) t₀ rest (made .tables) (used + made .used)) texts (went-on (g .kept) left enough-room (turned .same) e);
-          front = behind (g .front) (turned .front);
+          sound = rw (made-here .same) (one-sound p t (drop done rest) (g .sound));
+          within = further;
+          front = f;
+          same =
+              rw (texts, rooms, made-here .same, ← drop-drop used done rest, made-here .rest-left)
+              ((λ i. record { tables = later .tables; text = append-assoc (take size out) text (later .text) i; left = later .left })
+              ∙ ap (behindText (take size out)) (sym (first-turn (boxOf p) (length out - size) t (drop done rest) some-left room))
+              ∙ g .same);
         }
-
-    pub at-last : made .last ≡ true
-        → TurnMade (record { tables = made .tables; text = take (size + n) (next-out (g .front) (turned .front)); used = used + made .used; last = made .last })
-        (turns (boxOf p) (length out₀) t₀ rest) out₀ (next-out (g .front) (turned .front)) (size + n)
-    at-last e =
-        made-of
-        ((λ i. record { tables = made .tables; text = sym texts i; used = used + made .used; last = made .last }) ∙ ended (g .kept) left enough-room (turned .same) e)
-        refl (behind (g .front) (turned .front))

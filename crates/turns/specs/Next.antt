@@ -1,96 +1,86 @@
--- What turns of the code leave and give, as turns of the definition.
-use Prim.Native.Nat.{ℕ, zero, suc, _+_, _-_, _≤_, _<_}
+-- What turns of the code leave and give, as turns of the definition: the records of a script, as many as fit.
+use Prim.Native.Nat.{ℕ, suc, _-_, _≤_, _<_}
 use mathlib.Core.Path.{_≡_}
-use mathlib.Core.Bool.{false, cond}
-use mathlib.Core.List.{List, [], _∷_, _++_}
+use mathlib.Core.Bool.{cond}
+use mathlib.Core.List.{List, [], _∷_, _++_, map}
 use lib.ListN.{length, take, drop}
 use lib.Dec.{ltb}
 use Rattle.ideal.specs.declared.Profile.{Profile}
 use Rattle.ideal.specs.Step.{Answer as StepAnswer}
-use Rattle.ideal.specs.Tables.{Tables}
-use Rattle.ideal.specs.Box.{Element, Result}
+use Rattle.ideal.specs.Tables.{Tables, flat}
+use Rattle.ideal.specs.Box.{Element, given, Result, elementAt, tablesFrom, answersFrom}
 use Rattle.ideal.specs.LevelOne.{boxOf}
 use Rattle.ideal.specs.Layouts.{Sound}
-use Rattle.state.specs.declared.LogTable.{LogTable}
-use Rattle.state.specs.declared.EscrowTable.{EscrowTable}
 use Rattle.state.specs.declared.Answer.{Answer}
-use Rattle.state.specs.Edits.{logWith, escrowWith}
-use Rattle.soundness.specs.Parts.{tablesOf}
-use Rattle.turns.specs.declared.NextLine.{NextLine}
-use Rattle.turns.specs.declared.Lines.{Lines}
-use Rattle.sheet.specs.Sheet.{linesFrom}
+use Rattle.sheet.specs.Records.{leftAfter, recordsOf}
+use Rattle.sheet.specs.Sheet.{line, linesOf}
 use Rattle.sheet.specs.Stored.{AtFront}
-use Rattle.sheet.specs.Turns.{Turn, turn}
 
 -- the answer whose shown bytes stand at the front of the output buffer
 abbrev pub answerIn : Answer → (output : List ℕ) → StepAnswer
 answerIn a output = record { code = a .code; number = a .number; used = a .used; shown = take (a .shown) output }
 
--- of the tables that came in: the row that the call puts goes into them
-abbrev pub turnOf : LogTable → EscrowTable → NextLine → (heaps shared logValues escrowValues out : List ℕ) → Turn
-turnOf log escrow r heaps shared logValues escrowValues out =
-    record {
-      tables =
-          tablesOf (r .held) (logWith (r .edits .log) log) (escrowWith (r .edits .escrow) escrow) heaps shared logValues escrowValues;
-      text = take (r .size) out;
-      used = r .used;
-      last = r .last;
-    }
+-- records from the front of a script on: the tables that they leave, their lines, and what is left of the script
+pub record Turn : Type 0 where
+  pub tables : Tables
+  pub text : List ℕ
+  pub left : List ℕ
 
--- a turn of the code is that of the definition, and the bytes beyond its text are unaltered
-pub record TurnMade (made defined : Turn) (before after : List ℕ) (size : ℕ) : Type 0 where
-  pub same : made ≡ defined
-  pub front : AtFront (defined .text) before after size
+-- any line fits in so many bytes: three numbers of 20 digits, 1,024 bytes in hexadecimal, and what parts and ends them
+abbrev pub lineMost : ℕ
+lineMost = 2113
 
--- ---- one turn after another
-
-abbrev pub turnsOf : Lines → (heaps shared logValues escrowValues out : List ℕ) → Turn
-turnsOf r heaps shared logValues escrowValues out =
-    record {
-      tables = tablesOf (r .held) (r .log) (r .escrow) heaps shared logValues escrowValues;
-      text = take (r .size) out;
-      used = r .used;
-      last = r .last;
-    }
-
-abbrev pub noTurn : Tables → Turn
-noTurn t = record { tables = t; text = []; used = 0; last = false }
-
--- a turn, then others
-abbrev pub followed : Turn → Turn → Turn
-followed a later =
-    record { tables = later .tables; text = a .text ++ later .text; used = a .used + later .used; last = later .last }
+-- how many of these answers have a line, where each is written only if there is room for any line
+unfoldable pub fitting : (room : ℕ) → List StepAnswer → ℕ
+fitting room [] = 0
+fitting room (a ∷ later) = cond (ltb room lineMost) 0 (suc (fitting (room - length (line a)) later))
 
 module _ (box : Tables → Element → Result) where
-  -- turns until no input is left, after one that is the last, or where the next line might not fit in the room that is
-  -- left; at most n
-  unfoldable pub turnsFrom : (n room : ℕ) → Tables → List ℕ → Turn
-  turnsFrom zero room t rest = noTurn t
-  turnsFrom (suc n) room t [] = noTurn t
-  turnsFrom (suc n) room t (b ∷ bs) =
-      let a = turn box t (b ∷ bs) in
-      let later = turnsFrom n (room - length (a .text)) (a .tables) (drop (a .used) (b ∷ bs)) in
-      cond (ltb room 2113) (noTurn t) (cond (a .last) a (followed a later))
+  -- one record
+  unfoldable pub turn : Tables → List ℕ → Turn
+  turn t rest =
+      let r = box t (given rest 1024) in
+      record { tables = r .tables; text = line (r .answer); left = leftAfter rest }
 
-  -- a turn that is not the last uses a byte at least, so there are no more turns than bytes
-  abbrev pub turns : ℕ → Tables → List ℕ → Turn
-  turns room t rest = turnsFrom (length rest) room t rest
+  -- the first of these calls, as many as fit
+  unfoldable pub turnsOver : (room : ℕ) → Tables → List Element → Turn
+  turnsOver room t es =
+      let n = fitting room (answersFrom box t es) in
+      record {
+        tables = tablesFrom box t (take n es);
+        text = flat (map line (answersFrom box t (take n es)));
+        left = elementAt es n .bytes;
+      }
 
-  -- the lines of a sheet from here to its end
-  abbrev pub linesLeft : Tables → List ℕ → List ℕ
-  linesLeft t rest = linesFrom box (length rest) t rest
+  abbrev pub turns : (room : ℕ) → Tables → List ℕ → Turn
+  turns room t rest = turnsOver room t (recordsOf 1024 rest)
 
-  -- turns write the first of those lines, and leave the others to be written: none after a last line
+  -- turns write the first lines of what is left of a sheet, and leave the others to be written
   pub record Writes (made : Turn) (t : Tables) (rest : List ℕ) : Type 0 where
-    pub lines : linesLeft t rest ≡ made .text ++ cond (made .last) [] (linesLeft (made .tables) (drop (made .used) rest))
+    pub lines : linesOf box t rest ≡ made .text ++ linesOf box (made .tables) (made .left)
     pub sound : Sound (made .tables) 1024
-    pub within : made .used ≤ length rest
+    pub within : length (made .left) ≤ length rest
 
 abbrev pub TurnsWrite : Type 0
 TurnsWrite = (p : Profile) (room : ℕ) (t : Tables) (rest : List ℕ) → Sound t 1024
     → Writes (boxOf p) (turns (boxOf p) room t rest) t rest
 
--- where input is left and there is room for any line, something is written
+-- a line is written, and less is left
+pub record GoesOn (made : Turn) (rest : List ℕ) : Type 0 where
+  pub some : 0 < length (made .text)
+  pub less : length (made .left) < length rest
+
+-- where input is left and there is room for any line
 abbrev pub TurnsGoOn : Type 0
-TurnsGoOn = (p : Profile) (room : ℕ) (t : Tables) (rest : List ℕ) → Sound t 1024 → 0 < length rest → 2113 ≤ room
-    → turns (boxOf p) room t rest .last ≡ false → 0 < turns (boxOf p) room t rest .used
+TurnsGoOn = (p : Profile) (room : ℕ) (t : Tables) (rest : List ℕ) → Sound t 1024 → 0 < length rest → lineMost ≤ room
+    → GoesOn (turns (boxOf p) room t rest) rest
+
+-- ---- the code's
+
+-- The code leaves these tables, is done with so many bytes of the rest, and has written so many bytes at the front of a
+-- buffer: it is this turn, and the bytes beyond its text are unaltered.
+pub record TurnMade (defined : Turn) (made : Tables) (rest : List ℕ) (done : ℕ) (before after : List ℕ) (size : ℕ) : Type 0 where
+  pub same : made ≡ defined .tables
+  pub rest-left : drop done rest ≡ defined .left
+  pub within : done ≤ length rest
+  pub front : AtFront (defined .text) before after size

@@ -1,16 +1,17 @@
 // The records of a script, run on a sound box, and their lines.
 ghost use Prim.Native.Nat.{_+_, _*_, _≤_};
 ghost use mathlib.Core.Path.{_≡_};
+ghost use mathlib.Core.Bool.{cond};
 ghost use lib.ListN.{length};
-ghost use Rattle.ideal.specs.Box.{outputAfter};
+ghost use Rattle.ideal.specs.Box.{given, outputAfter};
 ghost use Rattle.ideal.specs.LevelOne.{boxOf};
 ghost use Rattle.ideal.specs.Layouts.{Sound};
-ghost use Rattle.state.specs.Edits.{EditsBy};
-ghost use Rattle.soundness.specs.Parts.{tablesOf};
-ghost use Rattle.sheet.specs.Sheet.{line, called};
+ghost use Rattle.ideal.specs.Tables.{lentTables};
+ghost use Rattle.state.specs.Edits.{logEdited, escrowEdited, EditsBy};
+ghost use Rattle.sheet.specs.Records.{lastCode};
+ghost use Rattle.sheet.specs.Sheet.{line};
 ghost use Rattle.sheet.specs.Stored.{AtFront};
-ghost use Rattle.sheet.specs.Turns.{turn};
-ghost use Rattle.turns.specs.Next.{answerIn, turnOf, turnsOf, TurnMade, turns};
+ghost use Rattle.turns.specs.Next.{answerIn, lineMost, TurnMade, turn, turns};
 use ideal::BoxRecord;
 use ideal::Profile;
 use sheet::is_last;
@@ -22,14 +23,16 @@ use state::LogTable;
 use state::escrow_edited;
 use state::log_edited;
 
-// What a turn gives: the box record, the row that the call puts, the bytes used, how many bytes the line has, and whether
-// its code is 1, 2 or 3, after which no other line comes.
+// Any line fits in so many bytes.
+const LINE: usize = 2113;
+
+// What a turn gives: the box record, the row that the call puts, how many bytes of the rest are done with, and how many bytes
+// the line has.
 pub struct NextLine {
     pub held: BoxRecord,
     pub edits: Edits,
-    pub used: usize,
+    pub done: usize,
     pub size: usize,
-    pub last: bool,
 }
 
 // What turns give, one after another: the same with whole tables.
@@ -37,9 +40,8 @@ pub struct Lines {
     pub held: BoxRecord,
     pub log: LogTable,
     pub escrow: EscrowTable,
-    pub used: usize,
+    pub done: usize,
     pub size: usize,
-    pub last: bool,
 }
 
 // The line of an answer whose shown bytes stand at the front of the output buffer.
@@ -49,6 +51,16 @@ fn write_answer(answer: Answer, output: &[u8], out: &mut [u8]) -> usize
 {
     let n = answer.shown as usize;
     write_line(answer.code, answer.number, answer.used, &output[..n], out)
+}
+
+// How many bytes of what is left are done with: those used, and after a line that is the last, all.
+fn bytes_done(code: u8, used: usize, left: usize) -> usize
+    ensures { λ r. ⌜ r ≡ cond (lastCode code) left used ⌝ }
+{
+    if is_last(code) {
+        return left;
+    }
+    used
 }
 
 // The record at the front of rest on a sound box, and its line at the front of out. A line has at most 2,113 bytes. Its
@@ -67,24 +79,25 @@ pub fn next_line(
     out: &mut [u8],
 ) -> NextLine
     requires { ⌜
-        Sound (tablesOf held log escrow (now heaps) (now shared) (now «log_values») (now «escrow_values»)) (length (now output))
-        × (2113 ≤ length (now out))
+        Sound (lentTables held (log .rows) (escrow .rows) (now heaps) (now shared) (now «log_values») (now «escrow_values»)) (length (now output))
+        × (lineMost ≤ length (now out))
         ⌝ }
     ensures { λ r. ⌜
         TurnMade
-        (turnOf log escrow r (now (heaps .exit)) (now (shared .exit)) (now («log_values» .exit)) (now («escrow_values» .exit)) (now (out .exit)))
         (turn (boxOf profile)
-        (tablesOf held log escrow (now (heaps .entry)) (now (shared .entry)) (now («log_values» .entry)) (now («escrow_values» .entry)))
+        (lentTables held (log .rows) (escrow .rows) (now (heaps .entry)) (now (shared .entry)) (now («log_values» .entry)) (now («escrow_values» .entry)))
         (now (rest .entry)))
-        (now (out .entry)) (now (out .exit)) (r .size)
+        (lentTables (r .held) (logEdited (r .edits .log) (log .rows)) (escrowEdited (r .edits .escrow) (escrow .rows)) (now (heaps .exit)) (now (shared .exit))
+        (now («log_values» .exit)) (now («escrow_values» .exit)))
+        (now (rest .entry)) (r .done) (now (out .entry)) (now (out .exit)) (r .size)
         ⌝ }
     ensures { λ r. ⌜ EditsBy held (escrow .rows) (r .held) (r .edits) ⌝ }
     ensures { λ r. ⌜
         now (output .exit)
         ≡ outputAfter
-        (called (boxOf profile)
-        (tablesOf held log escrow (now (heaps .entry)) (now (shared .entry)) (now («log_values» .entry)) (now («escrow_values» .entry)))
-        (now (rest .entry)) .answer)
+        (boxOf profile
+        (lentTables held (log .rows) (escrow .rows) (now (heaps .entry)) (now (shared .entry)) (now («log_values» .entry)) (now («escrow_values» .entry)))
+        (given (now (rest .entry)) 1024) .answer)
         (now (output .entry))
         ⌝ }
 {
@@ -104,12 +117,12 @@ pub fn next_line(
     let size = write_answer(answer, output, out);
     let held = change.held;
     let edits = change.edits;
+    let done = bytes_done(answer.code, answer.used, rest.len());
     NextLine {
         held,
         edits,
-        used: answer.used,
+        done,
         size,
-        last: is_last(answer.code),
     }
 }
 
@@ -128,25 +141,24 @@ pub fn next_lines(
     out: &mut [u8],
 ) -> Lines
     requires { ⌜
-        Sound (tablesOf held log escrow (now heaps) (now shared) (now «log_values») (now «escrow_values»)) 1024
-        × (2113 ≤ length (now out))
+        Sound (lentTables held (log .rows) (escrow .rows) (now heaps) (now shared) (now «log_values») (now «escrow_values»)) 1024
+        × (lineMost ≤ length (now out))
         ⌝ }
     ensures { λ r. ⌜
         TurnMade
-        (turnsOf r (now (heaps .exit)) (now (shared .exit)) (now («log_values» .exit)) (now («escrow_values» .exit)) (now (out .exit)))
         (turns (boxOf profile) (length (now (out .entry)))
-        (tablesOf held log escrow (now (heaps .entry)) (now (shared .entry)) (now («log_values» .entry)) (now («escrow_values» .entry)))
+        (lentTables held (log .rows) (escrow .rows) (now (heaps .entry)) (now (shared .entry)) (now («log_values» .entry)) (now («escrow_values» .entry)))
         (now (rest .entry)))
-        (now (out .entry)) (now (out .exit)) (r .size)
+        (lentTables (r .held) (r .log .rows) (r .escrow .rows) (now (heaps .exit)) (now (shared .exit)) (now («log_values» .exit)) (now («escrow_values» .exit)))
+        (now (rest .entry)) (r .done) (now (out .entry)) (now (out .exit)) (r .size)
         ⌝ }
 {
     // one for all records, since to clear it for each takes time
     let mut output = [0u8; 1024];
-    let mut used: usize = 0;
+    let mut done: usize = 0;
     let mut size: usize = 0;
-    let mut last = false;
-    while used < rest.len() {
-        if out.len() - size < 2113 {
+    while done < rest.len() {
+        if out.len() - size < LINE {
             break;
         }
         let next = next_line(
@@ -159,26 +171,21 @@ pub fn next_lines(
             log_values,
             escrow_values,
             &mut output,
-            &rest[used..],
+            &rest[done..],
             &mut out[size..],
         );
         let edits = next.edits;
         log = log_edited(log, edits.log);
         escrow = escrow_edited(escrow, edits.escrow);
         held = next.held;
-        used += next.used;
+        done += next.done;
         size += next.size;
-        last = next.last;
-        if last {
-            break;
-        }
     }
     Lines {
         held,
         log,
         escrow,
-        used,
+        done,
         size,
-        last,
     }
 }

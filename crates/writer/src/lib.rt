@@ -10,6 +10,8 @@ ghost use Rattle.record.specs.Layout.{kindOf, gives, mapOf, stands};
 ghost use Rattle.record.specs.Write.{only, recordIn, tooMany, writeOn};
 ghost use Rattle.record.specs.Size.{fieldSize, recordSize};
 ghost use Rattle.writer.specs.Results.{wroteOn};
+use buffers::put;
+use buffers::put_number;
 use record::Fields;
 use record::LegalMap;
 use record::has;
@@ -23,32 +25,6 @@ pub enum Written {
     Unknown,
     // The buffer is shorter than the record, or the bytes are more than a count of 2 bytes can say.
     NoRoom,
-}
-
-// The `width` lowest bytes of x, lowest first, from `at` on.
-fn put_number(out: &mut [u8], at: usize, width: usize, x: u64)
-    requires { ⌜ at + width ≤ length (now out) ⌝ }
-    ensures { λ r. ⌜ now (out .exit) ≡ sets (now (out .entry)) at (little width x) ⌝ }
-{
-    let mut rest = x;
-    let mut i = 0;
-    while i < width {
-        out[at + i] = (rest % 256) as u8;
-        rest /= 256;
-        i += 1;
-    }
-}
-
-// All of src, from `at` on.
-fn put_all(out: &mut [u8], at: usize, src: &[u8])
-    requires { ⌜ at + length (now src) ≤ length (now out) ⌝ }
-    ensures { λ r. ⌜ now (out .exit) ≡ sets (now (out .entry)) at (now (src .entry)) ⌝ }
-{
-    let mut i = 0;
-    while i < src.len() {
-        out[at + i] = src[i];
-        i += 1;
-    }
 }
 
 // How many bytes a field of this width takes: none where its bit is down.
@@ -81,7 +57,7 @@ fn put_bytes(out: &mut [u8], at: usize, map: u8, bytes: &[u8])
 {
     if has(map, 6) {
         put_number(out, at, 2, bytes.len() as u64);
-        put_all(out, at + 2, bytes);
+        put(bytes, out, at + 2);
     }
 }
 

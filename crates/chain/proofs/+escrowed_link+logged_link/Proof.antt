@@ -6,7 +6,8 @@ use lib.ListN.{length, drop}
 use borrow.Author.Needs.{needs}
 use borrow.Fn.Kinds.{In}
 use borrow.Fn.PlainCycle.{Measures, is, falls, and}
-use Rattle.chain.specs.Meaning.{loggedLink, escrowedLink, inChain, inEscrow, ValueWithin}
+use Rattle.record.specs.Call.{loggedLink, escrowedLink}
+use Rattle.chain.specs.Meaning.{inChain, inEscrow, ValueWithin}
 use Rattle.chain.specs.Columns.{logIn, foundIn}
 use Rattle.chain.specs.Narrow.{LinkFits}
 use Rattle.chain.proofs.Links.{none-left, refusal, Met, at-malformed, at-end, at-logged, at-escrowed, one-less}

@@ -4,10 +4,11 @@ use mathlib.Core.Path.{_≡_, refl, sym, _∙_}
 use native.Mathlib.Nat.{add-sub-cancel-left}
 use native.Mathlib.Omega.{arith}
 use Rattle.ideal.specs.Tables.{escrowTable, entriesOf}
-use Rattle.ideal.specs.Step.{isEscrowed, absent, valueIn, unvouched, linkValue, bytesAfter}
+use Rattle.record.specs.Call.{escrowedLink, identityOf}
+use Rattle.ideal.specs.Step.{isEscrowed, absent, valueIn, unreadable, unvouched, linkValue, bytesAfter}
 use Rattle.ideal.specs.State.{find}
 use Rattle.chain.specs.Columns.{escrowedRow, rowsFrom, foundIn}
-use Rattle.chain.specs.Meaning.{escrowedLink, inEscrow, ValueWithin}
+use Rattle.chain.specs.Meaning.{inEscrow, ValueWithin}
 use Rattle.chain.proofs.Rows.{rows-step, rows-end}
 use Rattle.chain.proofs.Links.{nobody, unknown, known}
 use Rattle.chain.proofs.escrowed_value.Statement.{statement}
@@ -24,7 +25,7 @@ abbrev μ-loop : tie.MeasureT-loop
 μ-loop columns m size caller identity handle i₀ i = m - i
 
 returns : tie.Need-returns Inv-loop μ-loop
-unfolding inEscrow ValueWithin
+unfolding inEscrow ValueWithin unreadable identityOf
 returns c = (λ values log chain. nobody log _ _ _ refl (c .if1 .taken), λ values fits. tt)
 
 loop-holds : tie.Need-loop-holds Inv-loop μ-loop
@@ -57,7 +58,7 @@ add-end-2 c =
     omega (arith, c .before .before .before .before .before .before .before .pre .1 (c .before .before .before .before .before .loop .i) (c .before .before .before .before .loop-test .taken))
 
 returns-2 : tie.Need-returns-2 Inv-loop μ-loop
-unfolding inEscrow ValueWithin unvouched absent valueIn linkValue bytesAfter find entriesOf
+unfolding inEscrow ValueWithin unreadable identityOf unvouched absent valueIn linkValue bytesAfter find entriesOf
 returns-2 c =
     let x = c .before .before .before .before .before .before .before .args in
     let l = c .before .before .before .before .before .loop in (
@@ -87,7 +88,7 @@ loop-again c =
     )
 
 returns-3 : tie.Need-returns-3 Inv-loop μ-loop
-unfolding inEscrow ValueWithin unvouched absent find entriesOf
+unfolding inEscrow ValueWithin unreadable identityOf unvouched absent find entriesOf
 returns-3 c =
     let x = c .before .before .before .args in
     let l = c .before .loop in (

@@ -2,6 +2,7 @@ use borrow.Author.Needs.{needs}
 use mathlib.Core.Path.{refl, sym, _∙_}
 use native.Mathlib.Omega.{arith}
 use borrow.Author.Tests.{eq-eqb, ne-eqb}
+use Rattle.record.specs.Call.{linkBy}
 use Rattle.chain.specs.Meaning.{headIn}
 use Rattle.chain.proofs.Bytes.{head-none, head-some, head-leads, head-short}
 use Rattle.chain.proofs.head_of.Statement.{statement}
@@ -29,7 +30,7 @@ number-at-requires-2 : tie.Need-number-at-requires-2
 number-at-requires-2 c κs = search needs
 
 returns-4 : tie.Need-returns-4
-unfolding headIn
+unfolding headIn linkBy
 returns-4 c =
     head-leads _ (omega arith) (c .before .before .if4 .taken) refl refl (c .before .number-at .ensures .0) (c .number-at2 .ensures .0)
 
@@ -40,7 +41,7 @@ number-at-requires-4 : tie.Need-number-at-requires-4
 number-at-requires-4 c κs = search needs
 
 returns-5 : tie.Need-returns-5
-unfolding headIn
+unfolding headIn linkBy
 returns-5 c =
     head-leads _ (omega arith) (c .before .before .if5 .taken) refl refl (c .before .number-at3 .ensures .0) (c .number-at4 .ensures .0)
 

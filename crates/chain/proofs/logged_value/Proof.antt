@@ -4,7 +4,8 @@ use mathlib.Core.List.{List}
 use lib.ListN.{length, take, drop}
 use borrow.Author.Needs.{needs}
 use Rattle.record.specs.Layout.{gives}
-use Rattle.ideal.specs.Step.{unvouched, linkValue, bytesAfter}
+use Rattle.record.specs.Call.{identityOf}
+use Rattle.ideal.specs.Step.{unreadable, unvouched, linkValue, bytesAfter}
 use Rattle.chain.specs.Meaning.{ValueAndRest, inChain, ValueWithin}
 use Rattle.chain.specs.Narrow.{nextOf}
 use Rattle.chain.proofs.Bytes.{was-cut, was-whole}
@@ -22,7 +23,7 @@ enum-told : tie.Need-enum-told
 enum-told c = search needs
 
 returns : tie.Need-returns
-unfolding inChain ValueWithin
+unfolding inChain ValueWithin unreadable
 returns c =
     (λ found. astray _ found _ _ (was-cut _ (rw (c .enum-told .given .1) at (c .before .before .next-value .ensures .0))), tt)
 
@@ -47,7 +48,7 @@ unfolding ValueWithin
 within k = rw (k .before .start .given .1) at (k .before .before .before .next-value .ensures .1)
 
 returns-2 : tie.Need-returns-2
-unfolding inChain ValueWithin
+unfolding inChain ValueWithin unreadable identityOf
 returns-2 c =
     (λ found. nobody _ found _ _ (was-whole _ (next (c .before)) .0) (c .if1 .taken), tt)
 
@@ -67,14 +68,14 @@ abbrev value : ValueAndRest → List ℕ
 value v = v .value
 
 returns-3 : tie.Need-returns-3
-unfolding inChain ValueWithin unvouched
+unfolding inChain ValueWithin unreadable identityOf unvouched
 returns-3 c =
     let w = was-whole _ (next (c .before .before .before .before)) in
     let f = c .before .before .before .if1 .left in
     (λ found. unknown _ found _ _ (w .0) f (rw (ap value (w .1), ← c .before .logged-in .ensures) (c .if2 .taken)), tt)
 
 returns-4 : tie.Need-returns-4
-unfolding inChain ValueWithin unvouched linkValue bytesAfter
+unfolding inChain ValueWithin unreadable identityOf unvouched linkValue bytesAfter
 returns-4 c =
     let k = c .before .before .before .before in
     let w = was-whole _ (next k) in

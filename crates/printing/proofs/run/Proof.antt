@@ -1,17 +1,17 @@
 use borrow.Author.Needs.{needs}
 use native.Mathlib.Omega.{arith}
 use Prim.Native.Nat.{_≤_, _-_}
-use mathlib.Core.Path.{_≡_, sym, _∙_}
+use mathlib.Core.Path.{_≡_, sym}
 use lib.Seq.{length-take-le}
 use lib.ListN.{length}
-use Rattle.soundness.specs.Parts.{tablesOf}
-use Rattle.printing.proofs.Going.{Going, begins, done, size-fits, failed-part, next-part, fits, last-here, within-script, further, went-further}
+use Rattle.printing.proofs.Going.{Going, begins, done-with, size-fits, failed-part, next-part, fits, within-script, further, went-further}
 use Rattle.printing.proofs.run.Statement.{statement}
 use Rattle.printing.proofs.run.Tie as tie
+use Rattle.ideal.specs.Tables.{lentTables}
 
 abbrev Inv-loop : tie.InvT-loop
 Inv-loop profile script b₀ log₀ escrow₀ heaps₀ shared₀ log-values₀ escrow-values₀ text₀ so-far₀ at₀ b log escrow heaps shared log-values escrow-values text so-far at =
-    Going profile script (tablesOf b log escrow heaps shared log-values escrow-values) at (so-far .printed) × (at ≤ length script) × (4096 ≡ length heaps) × (1024 ≡ length shared) × (4096 ≡ length log-values) × (4096 ≡ length escrow-values)
+    Going profile script (lentTables b (log .rows) (escrow .rows) heaps shared log-values escrow-values) at (so-far .printed) × (at ≤ length script) × (4096 ≡ length heaps) × (1024 ≡ length shared) × (4096 ≡ length log-values) × (4096 ≡ length escrow-values)
     × (65536 ≡ length text)
 
 abbrev μ-loop : tie.MeasureT-loop
@@ -99,42 +99,32 @@ returns c =
     let kept = looping .before .loop .inv in
     failed-part _ _ (c .enum-told .given .1) (next-part (kept .0) (looping .loop-test .taken) (turned .next-lines .ensures) (sym (kept .6))) (printing .print .ensures)
 
-returns-2 : tie.Need-returns-2 Inv-loop μ-loop
-returns-2 c =
-    let printing = c .before .before .before .before in
-    let turned = printing .before .before .before .before .before .before .before .before .before .before in
-    let looping = turned .before .before .before .before .before .before .before in
-    let kept = looping .before .loop .inv in
-    let left = looping .loop-test .taken in
-    let made = turned .next-lines .ensures in
-    rw (c .before .before .part .given .1) at (printing .print .ensures) ∙ last-here (kept .0) left made (sym (kept .6)) (c .if1 .taken)
-
 add-at : tie.Need-add-at Inv-loop μ-loop
 add-at c =
-    let turned = c .before .before .before .before .before .before .before .before .before .before .before .before .before .before .before in
+    let turned = c .before .before .before .before .before .before .before .before .before .before .before .before .before .before in
     let looping = turned .before .before .before .before .before .before .before in
     let kept = looping .before .loop .inv in
     record { fits = omega (arith, within-script (kept .0) (looping .loop-test .taken) (turned .next-lines .ensures) (sym (kept .6)), looping .before .before .before .before .before .before .pre .0) }
 
 loop-less : tie.Need-loop-less Inv-loop μ-loop
 loop-less c =
-    let turned = c .before .before .before .before .before .before .before .before .before .before .before .before .before .before .before in
+    let turned = c .before .before .before .before .before .before .before .before .before .before .before .before .before .before in
     let looping = turned .before .before .before .before .before .before .before in
     let kept = looping .before .loop .inv in
     let left = looping .loop-test .taken in
     let made = turned .next-lines .ensures in
-    omega (arith, within-script (kept .0) left made (sym (kept .6)), further (kept .0) left made (sym (kept .6)) (c .before .if1 .left))
+    omega (arith, within-script (kept .0) left made (sym (kept .6)), further (kept .0) left made (sym (kept .6)))
 
 loop-again : tie.Need-loop-again Inv-loop μ-loop
 loop-again c =
-    let back = c .before .before .before .before .before .before .before .before .before .before in
+    let back = c .before .before .before .before .before .before .before .before .before in
     let turned = back .before .before .before .before .before in
     let looping = turned .before .before .before .before .before .before .before in
     let kept = looping .before .loop .inv in
     let left = looping .loop-test .taken in
     let made = turned .next-lines .ensures in
-    let next = rw (c .before .before .before .part .given .1) at (c .before .before .before .before .before .print .ensures) in (
-      went-further (kept .0) left made (sym (kept .6)) next (c .before .if1 .left),
+    let next = rw (c .before .before .part .given .1) at (c .before .before .before .before .print .ensures) in (
+      went-further (kept .0) left made (sym (kept .6)) next,
       within-script (kept .0) left made (sym (kept .6)),
       sym (back .before .before .before .before .heaps2 .given),
       sym (back .before .before .before .shared2 .given),
@@ -143,9 +133,9 @@ loop-again c =
       sym (back .text2 .given),
     )
 
-returns-3 : tie.Need-returns-3 Inv-loop μ-loop
-returns-3 c =
-    done (c .before .loop .inv .0) (c .loop-test .left)
+returns-2 : tie.Need-returns-2 Inv-loop μ-loop
+returns-2 c =
+    done-with (c .before .loop .inv .0) (c .loop-test .left)
 
 pub run-spec : {M : Type 1} → statement M
 run-spec =
@@ -172,8 +162,7 @@ run-spec =
     enum-known-part
     enum-told
     returns
-    returns-2
     add-at
     loop-less
     loop-again
-    returns-3)
+    returns-2)

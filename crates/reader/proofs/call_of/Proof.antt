@@ -68,8 +68,7 @@ returns-11 c =
 returns-12 : tie.Need-returns-12
 unfolding callIn callOf kindOf among kinds CallWithin
 returns-12 c =
-    let way = c .first-link .ensures .0 in
-    (λ bs. rw (c .before .match .keys12, way .0, way .1), λ bs h. (h, c .first-link .ensures .1))
+    (λ bs. rw (c .before .match .keys12, c .first-link .ensures), λ bs h. h)
 
 returns-13 : tie.Need-returns-13
 unfolding callIn callOf kindOf among kinds CallWithin

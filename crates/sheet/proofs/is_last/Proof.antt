@@ -1,5 +1,5 @@
 use borrow.Author.Tests.{eq-eqb, ne-eqb}
-use Rattle.sheet.specs.Sheet.{lastCode}
+use Rattle.sheet.specs.Records.{lastCode}
 use Rattle.sheet.proofs.is_last.Statement.{statement}
 use Rattle.sheet.proofs.is_last.Tie as tie
 

@@ -6,8 +6,8 @@ use lib.ListN.{length-map}
 use borrow.Author.Tests.{not-true, not-false}
 use borrow.Author.Needs.{needs}
 use Rattle.ideal.specs.Soundness.{sound}
+use Rattle.ideal.specs.Tables.{lentTables}
 use Rattle.soundness.specs.Tests.{placesSound, logSound, escrowSound}
-use Rattle.soundness.specs.Parts.{tablesOf}
 use Rattle.soundness.proofs.Whole.{sound-parts}
 use Rattle.sound.proofs.box_sound.Statement.{statement}
 use Rattle.sound.proofs.box_sound.Tie as tie
@@ -17,7 +17,7 @@ whole : (c : tie.Start) (shared : List ℕ)
     → placesSound (c .args .held) (c .args .heaps .now)
     && (logSound (c .args .log .rows) (c .args .log-values .now) (c .args .held .log)
     && escrowSound (c .args .escrow .rows) (c .args .escrow-values .now) (c .args .held .escrow))
-    ≡ sound (tablesOf (c .args .held) (c .args .log) (c .args .escrow) (c .args .heaps .now) shared (c .args .log-values .now) (c .args .escrow-values .now))
+    ≡ sound (lentTables (c .args .held) (c .args .log .rows) (c .args .escrow .rows) (c .args .heaps .now) shared (c .args .log-values .now) (c .args .escrow-values .now))
 whole c shared =
     let a = c .args in
     sound-parts (a .held) (a .log) (a .escrow) (a .heaps .now) (a .log-values .now) (a .escrow-values .now)

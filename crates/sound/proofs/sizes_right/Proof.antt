@@ -1,33 +1,18 @@
-use borrow.Author.Tests.{eq-eqb, ne-eqb}
-use Rattle.lists.proofs.Bools.{and-nil}
-use Rattle.ideal.specs.Soundness.{sizesRight, pass}
+use borrow.Author.Needs.{needs}
+use Rattle.ideal.specs.Soundness.{sizesRight}
 use Rattle.sound.proofs.sizes_right.Statement.{statement}
 use Rattle.sound.proofs.sizes_right.Tie as tie
 
+tables-sized-requires : tie.Need-tables-sized-requires
+tables-sized-requires c κs = search needs
+
 returns : tie.Need-returns
-unfolding sizesRight pass
-returns c =
-    λ b log escrow k. rw (eq-eqb _ _ (k .identities), ne-eqb _ _ (c .if1 .taken))
+unfolding sizesRight
+returns c = λ b log escrow k. rw (← c .before .tables-sized .ensures b log escrow k, c .if1 .taken)
 
 returns-2 : tie.Need-returns-2
-unfolding sizesRight pass
-returns-2 c =
-    λ b log escrow k. rw (eq-eqb _ _ (k .identities), eq-eqb _ _ (c .before .if1 .left), ne-eqb _ _ (c .if2 .taken))
-
-returns-3 : tie.Need-returns-3
-unfolding sizesRight pass
-returns-3 c =
-    λ b log escrow k. rw (eq-eqb _ _ (k .identities), eq-eqb _ _ (c .before .before .if1 .left), eq-eqb _ _ (c .before .if2 .left), eq-eqb _ _ (k .logRows), ne-eqb _ _ (c .if3 .taken))
-
-returns-4 : tie.Need-returns-4
-unfolding sizesRight pass
-returns-4 c =
-    λ b log escrow k. rw (eq-eqb _ _ (k .identities), eq-eqb _ _ (c .before .before .before .if1 .left), eq-eqb _ _ (c .before .before .if2 .left), eq-eqb _ _ (k .logRows), eq-eqb _ _ (c .before .if3 .left), eq-eqb _ _ (k .escrowRows), ne-eqb _ _ (c .if4 .taken))
-
-returns-5 : tie.Need-returns-5
-unfolding sizesRight pass
-returns-5 c =
-    λ b log escrow k. rw (eq-eqb _ _ (k .identities), eq-eqb _ _ (c .before .before .before .if1 .left), eq-eqb _ _ (c .before .before .if2 .left), eq-eqb _ _ (k .logRows), eq-eqb _ _ (c .before .if3 .left), eq-eqb _ _ (k .escrowRows), eq-eqb _ _ (c .if4 .left), and-nil)
+unfolding sizesRight
+returns-2 c = λ b log escrow k. rw (← c .before .tables-sized .ensures b log escrow k, c .if1 .left)
 
 pub sizes-right-spec : {M : Type 1} → statement M
-sizes-right-spec = tie.close (tie.spec returns returns-2 returns-3 returns-4 returns-5)
+sizes-right-spec = tie.close (tie.spec tables-sized-requires returns returns-2)

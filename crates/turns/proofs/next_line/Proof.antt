@@ -14,8 +14,8 @@ write-answer-requires c κs =
     let fits = shown-fits _ _ _ _ _ (c .before .before .before .before .before .before .before .before .before .before .before .before .before .call-sound .ensures .0) (start .pre .0) in
     (fits, omega (arith, fits, c .before .before .before .before .output .given, output-size _ _ (start .pre .0 .sizes), start .pre .1))
 
-is-last-requires : tie.Need-is-last-requires
-is-last-requires c κs = search needs
+bytes-done-requires : tie.Need-bytes-done-requires
+bytes-done-requires c κs = search needs
 
 same-length : tie.Need-same-length
 same-length c = search needs
@@ -39,7 +39,7 @@ returns : tie.Need-returns
 returns c =
     let sound = c .before .before .before .before .before .before .before .before .before .before .before .before .before .before .before .before .before .before .before .before .before .before .before .before .before .before .before .before .before .before .before .before .pre .0 in
     let called = c .before .before .before .before .before .before .before .before .before .before .before .before .before .before .before .before .before .before .before .call-sound .ensures in (
-      rw (c .is-last .ensures) (turn-called _ _ _ _ _ (called .0) sound (c .before .before .before .before .before .write-answer .ensures)),
+      turn-called _ _ _ _ _ (called .0) sound (c .before .before .before .before .before .write-answer .ensures) (c .bytes-done .ensures),
       (called .1, output-called _ _ _ _ _ (called .0) sound),
     )
 
@@ -49,7 +49,7 @@ next-line-spec =
     (tie.spec
     call-sound-requires
     write-answer-requires
-    is-last-requires
+    bytes-done-requires
     same-length
     same-length-2
     same-length-3

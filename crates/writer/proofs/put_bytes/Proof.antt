@@ -19,11 +19,11 @@ put-number-requires c κs =
     let a = h .before .before .before .args in
     omega (arith, present (a .map) 6 (2 + length (a .bytes .now)) (sym (h .has .ensures) ∙ c .before .if1 .taken))
 
-add-put-all : tie.Need-add-put-all
-add-put-all c = search needs
+add-put : tie.Need-add-put
+add-put c = search needs
 
-put-all-requires : tie.Need-put-all-requires
-put-all-requires c κs =
+put-requires : tie.Need-put-requires
+put-requires c κs =
     let h = c .before .before .before .before .before .before in
     let a = h .before .before .before .args in
     omega (
@@ -41,7 +41,7 @@ returns c =
     let p = c .before .before .before .before .before .before in
     let h = p .before .before .before in
     let e = sym (h .has .ensures) ∙ p .before .before .if1 .taken in
-    rw (e, sets-append, length-little, ← p .put-number .ensures) (c .before .before .put-all .ensures)
+    rw (e, sets-append, length-little, ← p .put-number .ensures) (c .before .before .put .ensures)
 
 returns-2 : tie.Need-returns-2
 unfolding only
@@ -53,8 +53,8 @@ put-bytes-spec =
     (tie.spec
     has-requires
     put-number-requires
-    add-put-all
-    put-all-requires
+    add-put
+    put-requires
     same-length
     returns
     returns-2)

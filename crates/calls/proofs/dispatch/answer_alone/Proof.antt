@@ -59,14 +59,12 @@ enum-known-called-7 c = search needs
 
 bytes-of-requires-4 : tie.Need-bytes-of-requires-4
 unfolding CallWithin
-bytes-of-requires-4 c κs = (rw (c .before .called7 .given .1) at (c .before .before .before .before .before .before .before .before .before .pre .1 .0)) .0
+bytes-of-requires-4 c κs = (rw (c .before .called7 .given .1) at (c .before .before .before .before .before .before .before .before .before .pre .1 .0))
 
 follow-chain-requires : tie.Need-follow-chain-requires
-unfolding CallWithin
 follow-chain-requires c κs =
-    let start = c .before .before .before .before .before .before .before .before .before .before in
-    let s = ready (start .pre .0) in
-    ((s .runs, s .log, s .escrow), (rw (c .before .before .called7 .given .1) at (start .pre .1 .0)) .1)
+    let s = ready (c .before .before .before .before .before .before .before .before .before .before .pre .0) in
+    (s .runs, s .log, s .escrow)
 
 report-requires : tie.Need-report-requires
 report-requires c κs = search needs

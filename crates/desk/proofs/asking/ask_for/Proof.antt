@@ -2,8 +2,8 @@
 use mathlib.Core.Path.{sym, ap, _∙_}
 use denote.Ref.{now}
 use borrow.Author.Needs.{needs}
-use Rattle.soundness.specs.Parts.{tablesOf}
 use Rattle.ideal.specs.Box.{callOn}
+use Rattle.ideal.specs.Tables.{lentTables}
 use Rattle.desk.specs.Results.{checkLeaves, unasked}
 use Rattle.desk.proofs.asking.ask_for.Statement.{statement}
 use Rattle.desk.proofs.asking.ask_for.Tie as tie
@@ -35,7 +35,7 @@ same-length-5 c = search needs
 returns : tie.Need-returns
 returns c =
     let s = c .before .before .before .before .before .before .before .before .before .before .before .before .before .before .before .before .before .before .before .before .before .before .before .before in
-    rw (sym (c .before .before .before .before .before .before .before .before .before .before .before .before .before .before .before .before .before .before .needs-box .ensures) ∙ c .before .before .before .before .before .before .before .before .before .before .before .before .before .before .before .before .before .if1 .taken) (c .before .before .before .before .before .before .before .before .before .before .check .ensures ∙ ap (checkLeaves callOn (tablesOf (s .args .held) (s .args .log) (s .args .escrow) (now (s .args .heaps)) (now (s .args .shared)) (now (s .args .log-values)) (now (s .args .escrow-values))) (now (s .args .output))) (c .before .before .before .before .before .before .before .before .before .before .before .claim-of .ensures))
+    rw (sym (c .before .before .before .before .before .before .before .before .before .before .before .before .before .before .before .before .before .before .needs-box .ensures) ∙ c .before .before .before .before .before .before .before .before .before .before .before .before .before .before .before .before .before .if1 .taken) (c .before .before .before .before .before .before .before .before .before .before .check .ensures ∙ ap (checkLeaves callOn (lentTables (s .args .held) (s .args .log .rows) (s .args .escrow .rows) (now (s .args .heaps)) (now (s .args .shared)) (now (s .args .log-values)) (now (s .args .escrow-values))) (now (s .args .output))) (c .before .before .before .before .before .before .before .before .before .before .before .claim-of .ensures))
 
 returns-2 : tie.Need-returns-2
 unfolding unasked

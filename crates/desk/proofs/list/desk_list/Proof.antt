@@ -1,103 +1,75 @@
 -- `desk::list::desk_list` meets its contract. Assumes nothing.
-use mathlib.Core.Path.{_≡_, sym, _∙_, ap}
-use mathlib.Core.List.{List}
-use Prim.Native.Nat.{_-_, _≤_, _<_, zero-le}
-use native.Mathlib.Omega.{arith}
-use lib.ListN.{length, length-map}
-use denote.Ref.{now}
+use mathlib.Core.Path.{sym, _∙_}
+use borrow.Author.Tests.{not-true, not-false}
 use borrow.Author.Needs.{needs}
-use Rattle.ideal.specs.Box.{callOn}
-use Rattle.soundness.specs.Parts.{tablesOf}
-use Rattle.desk.specs.declared.TankAnswer.{TankAnswer}
-use Rattle.desk.specs.Results.{Left}
-use Rattle.desk.proofs.Listed.{stands, Upto, turned, listed}
+use Rattle.calls.proofs.Whole.{ready-sound, not-ready}
+use Rattle.desk.proofs.Unasked.{unready-list}
 use Rattle.desk.proofs.list.desk_list.Statement.{statement}
 use Rattle.desk.proofs.list.desk_list.Tie as tie
 
-abbrev Inv-loop : tie.InvT-loop
-Inv-loop held log escrow heaps₀ shared₀ log-values₀ escrow-values₀ output₀ list answers₀ i₀ heaps shared log-values escrow-values output answers i =
-    (i ≤ 8)
-    × (stands (answers .rows) (tablesOf held log escrow heaps shared log-values escrow-values) output
-    ≡ Upto callOn (tablesOf held log escrow heaps₀ shared₀ log-values₀ escrow-values₀) output₀ (list .rows) i)
+is-ready-requires : tie.Need-is-ready-requires
+is-ready-requires c κs = search needs
 
-abbrev μ-loop : tie.MeasureT-loop
-μ-loop held log escrow heaps₀ shared₀ log-values₀ escrow-values₀ output₀ list answers₀ i₀ heaps shared log-values escrow-values output answers i =
-    8 - i
+refused-list-requires : tie.Need-refused-list-requires
+refused-list-requires c κs = search needs
 
-no-answers-requires : tie.Need-no-answers-requires Inv-loop μ-loop
-no-answers-requires c κs = search needs
+same-length : tie.Need-same-length
+same-length c = search needs
 
-loop-holds : tie.Need-loop-holds Inv-loop μ-loop
-loop-holds c =
-    let s = c .before .before .before .before .before .before in
-    (zero-le, λ i. stands (c .no-answers .ensures i) (tablesOf (s .args .held) (s .args .log) (s .args .escrow) (now (s .args .heaps)) (now (s .args .shared)) (now (s .args .log-values)) (now (s .args .escrow-values))) (now (s .args .output)))
+same-length-2 : tie.Need-same-length-2
+same-length-2 c = search needs
 
-mul-tank : tie.Need-mul-tank Inv-loop μ-loop
-mul-tank c = search needs
+same-length-3 : tie.Need-same-length-3
+same-length-3 c = search needs
 
-element-copy-out-tank : tie.Need-element-copy-out-tank Inv-loop μ-loop
-element-copy-out-tank c = search needs
+same-length-4 : tie.Need-same-length-4
+same-length-4 c = search needs
 
-desk-of-requires : tie.Need-desk-of-requires Inv-loop μ-loop
-desk-of-requires c κs = search needs
+same-length-5 : tie.Need-same-length-5
+same-length-5 c = search needs
 
-mul-answer : tie.Need-mul-answer Inv-loop μ-loop
-mul-answer c = search needs
-
-element-set-from-answer : tie.Need-element-set-from-answer Inv-loop μ-loop
-element-set-from-answer c = search needs
-
-add-i : tie.Need-add-i Inv-loop μ-loop
-add-i c = search needs
-
-loop-less : tie.Need-loop-less Inv-loop μ-loop
-loop-less c = omega arith
-
-loop-again : tie.Need-loop-again Inv-loop μ-loop
-loop-again c =
-    let s = c .before .before .before .before .before .before .before .before .before .before .before .before .before .before .before .before .before .before .before .before .before .before .before .before .before in
-    let less : c .before .before .before .before .before .before .before .before .before .before .before .before .before .before .before .before .before .before .loop .i < 8 = c .before .before .before .before .before .before .before .before .before .before .before .before .before .before .before .before .before .loop-test .taken in
-    (omega (arith, less), turned callOn (tablesOf (s .args .held) (s .args .log) (s .args .escrow) (now (s .args .heaps)) (now (s .args .shared)) (now (s .args .log-values)) (now (s .args .escrow-values))) (now (s .args .output)) (s .args .t1 .rows) (c .before .before .before .before .before .before .before .before .before .before .before .before .before .before .before .before .before .before .loop .i) (c .before .before .before .before .before .before .before .before .before .before .before .before .before .before .before .before .before .before .loop .answers .rows) (tablesOf (s .args .held) (s .args .log) (s .args .escrow) (c .before .before .before .before .before .before .before .before .before .before .before .before .before .before .before .before .before .before .loop .heaps) (c .before .before .before .before .before .before .before .before .before .before .before .before .before .before .before .before .before .before .loop .shared) (c .before .before .before .before .before .before .before .before .before .before .before .before .before .before .before .before .before .before .loop .log-values) (c .before .before .before .before .before .before .before .before .before .before .before .before .before .before .before .before .before .before .loop .escrow-values)) (c .before .before .before .before .before .before .before .before .before .before .before .before .before .before .before .before .before .before .loop .output) (sym (length-map (s .args .t1 .rows) _) ∙ s .good .0 .1 .1 .0 .1 .0 .1) (c .before .before .before .before .before .before .before .before .before .before .before .before .before .before .before .before .before .before .loop .inv .1) (c .before .before .before .before .before .before .before .before .before .before .desk-of .result) _ _ _ less (c .before .before .before .before .before .before .before .before .before .before .desk-of .ensures))
-
-same-length : tie.Need-same-length Inv-loop μ-loop
-same-length c = ap (λ (x : Left (List TankAnswer)). length (x .tables .heaps)) (c .before .loop .inv .1)
-
-same-length-2 : tie.Need-same-length-2 Inv-loop μ-loop
-same-length-2 c = ap (λ (x : Left (List TankAnswer)). length (x .tables .shared)) (c .before .loop .inv .1)
-
-same-length-3 : tie.Need-same-length-3 Inv-loop μ-loop
-same-length-3 c = ap (λ (x : Left (List TankAnswer)). length (x .tables .logValues)) (c .before .loop .inv .1)
-
-same-length-4 : tie.Need-same-length-4 Inv-loop μ-loop
-same-length-4 c = ap (λ (x : Left (List TankAnswer)). length (x .tables .escrowValues)) (c .before .loop .inv .1)
-
-same-length-5 : tie.Need-same-length-5 Inv-loop μ-loop
-same-length-5 c = ap (λ (x : Left (List TankAnswer)). length (x .output)) (c .before .loop .inv .1)
-
-returns : tie.Need-returns Inv-loop μ-loop
+returns : tie.Need-returns
 returns c =
-    let s = c .before .before .before .before .before .before .before .before in
-    listed callOn (tablesOf (s .args .held) (s .args .log) (s .args .escrow) (now (s .args .heaps)) (now (s .args .shared)) (now (s .args .log-values)) (now (s .args .escrow-values))) (now (s .args .output)) (s .args .t1 .rows) (c .before .loop .i) (c .before .loop .answers .rows) (tablesOf (s .args .held) (s .args .log) (s .args .escrow) (c .before .loop .heaps) (c .before .loop .shared) (c .before .loop .log-values) (c .before .loop .escrow-values)) (c .before .loop .output) (sym (length-map (s .args .t1 .rows) _) ∙ s .good .0 .1 .1 .0 .1 .0 .1) (c .before .loop .inv .1) (c .before .loop .inv .0) (c .loop-test .left)
+    let s = c .before .before .before .before .before .before .before .before .before .before .before .before .before in
+    rw (c .refused-list .ensures ∙ unready-list _ _ (not-ready _ _ (sym (c .before .before .is-ready .ensures) ∙ not-true _ (c .before .if1 .taken))) (s .args .list .rows))
+
+list-sound-requires : tie.Need-list-sound-requires
+list-sound-requires c κs = ready-sound _ _ (sym (c .before .before .before .before .before .before .is-ready .ensures) ∙ not-false _ (c .before .before .before .before .before .if1 .left))
+
+same-length-6 : tie.Need-same-length-6
+same-length-6 c = search needs
+
+same-length-7 : tie.Need-same-length-7
+same-length-7 c = search needs
+
+same-length-8 : tie.Need-same-length-8
+same-length-8 c = search needs
+
+same-length-9 : tie.Need-same-length-9
+same-length-9 c = search needs
+
+same-length-10 : tie.Need-same-length-10
+same-length-10 c = search needs
+
+returns-2 : tie.Need-returns-2
+returns-2 c = search needs
 
 pub desk-list-spec : {M : Type 1} → statement M
 desk-list-spec =
     tie.close
     (tie.spec
-    Inv-loop
-    μ-loop
-    no-answers-requires
-    loop-holds
-    mul-tank
-    element-copy-out-tank
-    desk-of-requires
-    mul-answer
-    element-set-from-answer
-    add-i
-    loop-less
-    loop-again
+    is-ready-requires
+    refused-list-requires
     same-length
     same-length-2
     same-length-3
     same-length-4
     same-length-5
-    returns)
+    returns
+    list-sound-requires
+    same-length-6
+    same-length-7
+    same-length-8
+    same-length-9
+    same-length-10
+    returns-2)

@@ -7,7 +7,7 @@ use denote.Triple.Table.{entered, cited}
 use Rattle.ideal.specs.Tables.{escrowTable}
 use Rattle.rows.specs.Unfit.{escrowClear}
 use Rattle.rows.proofs.Held.{escrow-row}
-use Rattle.rows.proofs.Kind.{Kind}
+use Rattle.lending.proofs.Kind.{Kind}
 use Rattle.rows.proofs.UnfitRows.{unfit-rows-meets}
 use Rattle.rows.proofs.escrow_rows.EscrowBits as B
 use Rattle.rows.proofs.escrow_rows.EscrowBits.Laws as B′

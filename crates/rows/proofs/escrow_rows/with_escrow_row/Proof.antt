@@ -1,5 +1,5 @@
 use borrow.Author.Needs.{needs}
-use Rattle.soundness.proofs.Rows.{escrow-joined}
+use Rattle.rows.proofs.Bits.{escrow-joined}
 use Rattle.rows.specs.Unfit.{escrowClear}
 use Rattle.rows.proofs.escrow_rows.with_escrow_row.Statement.{statement}
 use Rattle.rows.proofs.escrow_rows.with_escrow_row.Tie as tie

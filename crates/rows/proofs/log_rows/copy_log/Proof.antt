@@ -1,13 +1,15 @@
 -- `rows::log_rows::copy_log` meets its contract: it is `CopyRows.antt`'s walk at rows of the log.
 -- Assumes nothing.
+use mathlib.Core.Path.{_≡_}
 use contract.Monad.{factI}
 use contract.Running.{givenOf, tables, tablesOf}
 use denote.Triple.Spec.{tripleOf}
 use denote.Triple.Table.{entered, cited}
 use Rattle.ideal.specs.Tables.{logTable, freshTables}
 use Rattle.state.specs.declared.LogTable.{LogTable}
+use Rattle.rows.proofs.Whole.{Whole, most, copied, fresh-log}
 use Rattle.rows.proofs.Held.{log-row, log-table}
-use Rattle.rows.proofs.CopyRows.{copy-rows-meets}
+use Rattle.lending.proofs.CopyRows.{copy-rows-meets}
 use Rattle.rows.proofs.log_rows.blank_log as blank
 use Rattle.rows.proofs.log_rows.blank_log.Symbol as blank-def
 use Rattle.rows.proofs.log_rows.blank_log.Met as blank-thm
@@ -27,7 +29,7 @@ unfolding code.routine tablesOf
 copy-log-spec 𝓤 H 𝓜 𝓖 𝓡 =
     entered 𝓤 H (tripleOf 𝓤 H (𝓖 .A) self.signature (self.spec 𝓤 H (𝓖 .A) (𝓜 .mem) (𝓡 .run)))
     (tables 𝓤 H 𝓜 𝓡 code.env .C) (tables 𝓤 H 𝓜 𝓡 code.env .Λ) name code.function (code.unfolded 𝓤 H 𝓜 𝓡)
-    (copy-rows-meets log-row (logTable .blank) log-table (λ (t : LogTable). t .rows) (freshTables .logRows) blank-def.name row-at-def.name table-def.name
+    (copy-rows-meets log-row (logTable .blank) log-table (λ (t : LogTable). t .rows) 64 (freshTables .logRows) fresh-log Whole most (λ ys zs. zs ≡ ys) (copied (freshTables .logRows) fresh-log) blank-def.name row-at-def.name table-def.name
     𝓤 H (𝓖 .A) (givenOf 𝓤 H 𝓜 𝓖)
     (λ κs a. self.clauses 𝓤 H (𝓖 .A) (𝓜 .mem) (𝓡 .run) κs a .ensures) (λ κs a r e p. factI 𝓤 _ _ p) (tablesOf 𝓤 H 𝓜 (tables 𝓤 H 𝓜 𝓡 code.env))
     (cited 𝓤 H (tripleOf 𝓤 H (𝓖 .A) blank.signature (blank.spec 𝓤 H (𝓖 .A) (𝓜 .mem) (𝓡 .run))) 𝓜 𝓡 code.env blank-def.name blank-def.routine code.calls-rows·log-rows·blank-log (blank-thm.met 𝓤 H 𝓜 𝓖 𝓡))

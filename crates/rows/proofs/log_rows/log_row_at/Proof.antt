@@ -6,7 +6,7 @@ use denote.Triple.Spec.{tripleOf}
 use denote.Triple.Table.{entered}
 use Rattle.ideal.specs.Tables.{logTable}
 use Rattle.rows.proofs.Held.{log-row}
-use Rattle.rows.proofs.RowAt.{row-at-meets}
+use Rattle.lending.proofs.RowAt.{row-at-meets}
 use Rattle.rows.proofs.log_rows.log_row_at.Key.{name}
 use Rattle.rows.proofs.log_rows.log_row_at as self
 use Rattle.rows.proofs.log_rows.log_row_at.Statement as stated

@@ -7,7 +7,7 @@ use denote.Triple.Table.{entered, cited}
 use Rattle.ideal.specs.Tables.{logTable}
 use Rattle.rows.specs.Unfit.{logClear}
 use Rattle.rows.proofs.Held.{log-row}
-use Rattle.rows.proofs.Kind.{Kind}
+use Rattle.lending.proofs.Kind.{Kind}
 use Rattle.rows.proofs.UnfitRows.{unfit-rows-meets}
 use Rattle.rows.proofs.log_rows.LogBits as B
 use Rattle.rows.proofs.log_rows.LogBits.Laws as B′

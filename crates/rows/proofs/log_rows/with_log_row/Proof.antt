@@ -1,5 +1,5 @@
 use borrow.Author.Needs.{needs}
-use Rattle.soundness.proofs.Rows.{log-joined}
+use Rattle.rows.proofs.Bits.{log-joined}
 use Rattle.rows.specs.Unfit.{logClear}
 use Rattle.rows.proofs.log_rows.with_log_row.Statement.{statement}
 use Rattle.rows.proofs.log_rows.with_log_row.Tie as tie

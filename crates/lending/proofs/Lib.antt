@@ -1,0 +1,14 @@
+pub mod Arms
+pub mod CopyRows
+pub mod Covered
+pub mod HandOn
+pub mod Kind
+pub mod LocalRows
+pub mod Locals
+pub mod PutRow
+pub mod RowAt
+pub mod Says
+pub mod Share
+pub mod StoreRows
+pub mod Written
+pub mod Walk
