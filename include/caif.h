@@ -3,16 +3,17 @@
  * or both. The archives are for the System V ABI of x86-64, little endian. This header asserts that the compiler lays each
  * struct out as they do, in C11 and C++11 and later; older compilers are not asked.
  *
- * A host holds a box record, which goes in and comes back by value, and the tables and buffers that it lends for
- * each call. Whatever they hold, and however long they are, caif_call and caif_call_level_one return: a buffer that is
- * not of its size, or a box that is not sound, gets code 15, and a refusal alters nothing. caif_desk and caif_shift
- * return too, and alter nothing of the box, accepted or refused: what they only read is const, and may be memory that
- * cannot be written (which is tested, not proved: a contract speaks of what stands there before and after).
+ * A host holds a box record, which goes in and comes back by value or, with caif_call_lent, is lent too, and the tables
+ * and buffers that it lends for each call. Whatever they hold, and however long they are, caif_call, caif_call_lent and
+ * caif_call_level_one return: a buffer that is not of its size, or a box that is not sound, gets code 15, and a refusal
+ * alters nothing. caif_desk and caif_shift return too, and alter nothing of the box, accepted or refused: what they only
+ * read is const, and may be memory that cannot be written (which is tested, not proved: a contract speaks of what stands
+ * there before and after).
  *
  * What a host owes, because no program can test it: each pointer leads to as many elements as the count after it
- * says, is not null even where that count is 0, and is aligned for its type; no two lent buffers overlap; nobody
- * else reads or writes them during a call. Nor can a function test its stack: whoever calls one has CAIF_STACK bytes
- * of it left.
+ * says, is not null even where that count is 0, and is aligned for its type; a lent box record is one such element, with
+ * no count; no two of what is lent overlap; nobody else reads or writes it during a call. Nor can a function test its
+ * stack: whoever calls one has CAIF_STACK bytes of it left.
  */
 #ifndef CAIF_H
 #define CAIF_H
@@ -201,6 +202,19 @@ CAIF_FIELD(caif_reply, number, 152)
 CAIF_FIELD(caif_reply, used, 160)
 CAIF_FIELD(caif_reply, shown, 168)
 
+/* The same answer without a box record. 32 bytes. */
+struct caif_answer {
+    uint8_t code;    /* enum caif_code */
+    uint64_t number; /* as in caif_reply */
+    size_t used;     /* as in caif_reply */
+    uint16_t shown;  /* how many bytes stand at the front of the output buffer */
+};
+CAIF_SIZE(caif_answer, 32)
+CAIF_FIELD(caif_answer, code, 0)
+CAIF_FIELD(caif_answer, number, 8)
+CAIF_FIELD(caif_answer, used, 16)
+CAIF_FIELD(caif_answer, shown, 24)
+
 /* The numbers of a record's fields; those that the kind does not have are passed over. 32 bytes. */
 struct caif_fields {
     uint8_t place;    /* in a chain the first link's way */
@@ -278,6 +292,19 @@ struct caif_reply caif_call(struct caif_box held,
                             uint8_t *escrow_values, size_t escrow_values_size,
                             uint8_t *output, size_t output_size,
                             const uint8_t *bytes, size_t bytes_size);
+
+/* As caif_call, on a box record that is lent too, and that has the new state afterwards. It answers exactly as caif_call
+ * does. An accepted call writes the record, also where that stays as it was; what it leaves in the padding is not said. A
+ * refusal writes nothing to it (which is tested, not proved, as above). */
+struct caif_answer caif_call_lent(struct caif_box *held,
+                                  struct caif_log_row *log, size_t log_rows,
+                                  struct caif_escrow_row *escrow, size_t escrow_rows,
+                                  uint8_t *heaps, size_t heaps_size,
+                                  uint8_t *shared, size_t shared_size,
+                                  uint8_t *log_values, size_t log_values_size,
+                                  uint8_t *escrow_values, size_t escrow_values_size,
+                                  uint8_t *output, size_t output_size,
+                                  const uint8_t *bytes, size_t bytes_size);
 
 /* As caif_call, on the level-one box: places 0 to 3, no escrow, one value logged by each identity. Where it gives none
  * of the codes 21, 22 and 23, it leaves and answers what caif_call does. It takes any sound box, and one box may be

@@ -44,11 +44,11 @@ impl Case {
         for round in 0..rounds {
             sides.clone_from(&self.sides);
             if round % 2 == 0 {
-                proved.push(time_proved(&mut sides, &self.record));
+                proved.push(time_by_value(&mut sides, &self.record));
                 plain.push(time_plain(&mut sides, &self.record));
             } else {
                 plain.push(time_plain(&mut sides, &self.record));
-                proved.push(time_proved(&mut sides, &self.record));
+                proved.push(time_by_value(&mut sides, &self.record));
             }
         }
         table::line(&self.name, proved, plain);
@@ -56,8 +56,9 @@ impl Case {
     }
 }
 
+/// The host passes its box record, and keeps the one that comes back.
 #[inline(never)]
-fn time_proved(sides: &mut Sides, record: &[u8]) -> Duration {
+pub fn time_by_value(sides: &mut Sides, record: &[u8]) -> Duration {
     let began = Instant::now();
     let reply = sides.host.call(record);
     let took = began.elapsed();
@@ -66,7 +67,7 @@ fn time_proved(sides: &mut Sides, record: &[u8]) -> Duration {
 }
 
 #[inline(never)]
-fn time_plain(sides: &mut Sides, record: &[u8]) -> Duration {
+pub fn time_plain(sides: &mut Sides, record: &[u8]) -> Duration {
     let began = Instant::now();
     let answer = sides.second.call(&mut sides.output, record);
     let took = began.elapsed();

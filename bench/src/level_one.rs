@@ -12,6 +12,7 @@ use second::{tag_of, Call, Host, NONE_RUNS, OUTPUT_SIZE};
 
 use crate::boxes::{after, many_identities, value};
 use crate::calls::keep;
+use crate::rounds::{self, Timed};
 use crate::table;
 
 pub struct Case {
@@ -21,7 +22,7 @@ pub struct Case {
 }
 
 /// What is timed: the archive under each profile, and plain Rust.
-const TIMED: [fn(&mut Sides, &[u8]) -> Duration; 3] = [time_level_one, time_full, time_plain];
+const TIMED: [Timed; 3] = [time_level_one, time_full, time_plain];
 
 impl Case {
     fn new(box_name: &str, name: &str, host: &Host, code: u8, call: &Call) -> Self {
@@ -32,25 +33,14 @@ impl Case {
         Case { name: format!("{box_name}: {name}"), sides, record }
     }
 
-    /// Compares the sides under both profiles, then times them. Each call gets the
-    /// box anew, and the order changes from round to round.
+    /// Compares the sides under both profiles, then times them.
     pub fn time(self, rounds: usize) -> io::Result<()> {
         let compared = self.sides.call_both(&self.record);
         let both = compared.map_err(|message| {
             io::Error::new(ErrorKind::Other, format!("{}: {message}", self.name))
         })?;
         assert_eq!(both.level_one.0, both.full.0, "{}", self.name);
-        let mut times = [Vec::new(), Vec::new(), Vec::new()];
-        let mut sides = self.sides.clone();
-        for round in 0..rounds {
-            for n in 0..TIMED.len() {
-                let which = if round % 2 == 0 { round + n } else { round + 2 * n } % TIMED.len();
-                sides.clone_from(&self.sides);
-                times[which].push(TIMED[which](&mut sides, &self.record));
-            }
-        }
-        let [level_one, full, plain] = times;
-        table::level_one_line(&self.name, level_one, full, plain);
+        table::line_of_three(&self.name, rounds::times(rounds, &self.sides, &self.record, TIMED));
         Ok(())
     }
 }

@@ -1,7 +1,8 @@
 //! The proved box, through the C interface, beside the plain Rust of `second`.
 //! Both get the same boxes and records; their answers and buffers are compared
 //! once before the timing. Then level-one calls, beside full calls of the archive and
-//! beside `second`, and the tank desk beside `second`'s.
+//! beside `second`; calls with the box record lent, beside those by value and beside
+//! `second`; and the tank desk beside `second`'s.
 //!
 //!     bench ROUNDS BOXRUN SECOND SCRIPT
 //!
@@ -12,7 +13,9 @@
 mod boxes;
 mod calls;
 mod desk;
+mod lent;
 mod level_one;
+mod rounds;
 mod sheets;
 mod table;
 
@@ -46,6 +49,10 @@ fn time(rounds: usize, boxrun: &str, second: &str, script: &str) -> io::Result<E
     sheets::time(sheet_rounds, boxrun, second, script)?;
     table::level_one_head();
     for case in level_one::cases() {
+        case.time(rounds)?;
+    }
+    table::lent_head();
+    for case in lent::cases() {
         case.time(rounds)?;
     }
     table::desk_head();

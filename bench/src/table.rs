@@ -18,17 +18,17 @@ pub fn level_one_head() {
     println!("|---|---:|---:|---:|---:|---:|");
 }
 
-/// One line: the medians, and how many times longer a level-one call takes than the
-/// full call, and than plain Rust's.
-pub fn level_one_line(
-    name: &str,
-    level_one: Vec<Duration>,
-    full: Vec<Duration>,
-    plain: Vec<Duration>,
-) {
-    let (level_one, full, plain) = (median(level_one), median(full), median(plain));
-    let (by_full, by_plain) = (level_one / full, level_one / plain);
-    println!("| {name} | {level_one:.2} | {full:.2} | {by_full:.2} | {plain:.2} | {by_plain:.2} |");
+pub fn lent_head() {
+    println!("\n| call, the box record lent | lent | by value | ratio | plain Rust | ratio |");
+    println!("|---|---:|---:|---:|---:|---:|");
+}
+
+/// One line: the medians, and how many times longer the first takes than the second,
+/// and than plain Rust, which is the third.
+pub fn line_of_three(name: &str, times: [Vec<Duration>; 3]) {
+    let [first, second, plain] = times.map(median);
+    let (by_second, by_plain) = (first / second, first / plain);
+    println!("| {name} | {first:.2} | {second:.2} | {by_second:.2} | {plain:.2} | {by_plain:.2} |");
 }
 
 /// The lines after it are of [`line`].

@@ -1,4 +1,5 @@
-/* The example paper, then every other kind of call, then hand overs of each sort, then chains, then releases. */
+/* The example paper, then every other kind of call, then hand overs of each sort, then chains, then releases; each with the
+ * box record by value and lent. */
 #include "host.h"
 
 #define HANDLE 281474976710663u      /* of length 1 and draw 7 */
@@ -379,6 +380,8 @@ static void check_steps(struct host *host, const struct step *steps, size_t coun
         check_written(&steps[n], label);
         wanted = *host;
         steps[n].alters(&wanted);
+        struct caif_answer answer = {steps[n].code, steps[n].number, steps[n].length, steps[n].shown};
+        check_call_lent(host, &right_sizes, steps[n].record, steps[n].length, answer, &wanted, label);
         struct caif_reply reply = call(host, &right_sizes, steps[n].record, steps[n].length);
         check_reply(&reply, steps[n].code, steps[n].number, steps[n].length, steps[n].shown, label);
         check_host(host, &wanted, label);

@@ -23,33 +23,39 @@ void make_fresh(struct host *host)
 }
 
 #define LENT(host, sizes)                                                                              \
-    (host)->held, (host)->log, (sizes)->log, (host)->escrow, (sizes)->escrow, (host)->heaps,           \
-        (sizes)->heaps, (host)->shared, (sizes)->shared, (host)->log_values, (sizes)->log_values,      \
+    (host)->log, (sizes)->log, (host)->escrow, (sizes)->escrow, (host)->heaps, (sizes)->heaps,         \
+        (host)->shared, (sizes)->shared, (host)->log_values, (sizes)->log_values,                      \
         (host)->escrow_values, (sizes)->escrow_values, (host)->output, (sizes)->output
 
 struct caif_reply call(struct host *host, const struct sizes *sizes, const uint8_t *bytes, size_t count)
 {
-    struct caif_reply reply = caif_call(LENT(host, sizes), bytes, count);
+    struct caif_reply reply = caif_call(host->held, LENT(host, sizes), bytes, count);
     host->held = reply.held;
     return reply;
 }
 
+struct caif_answer call_lent(struct caif_box *held, struct host *host, const struct sizes *sizes, const uint8_t *bytes,
+                             size_t count)
+{
+    return caif_call_lent(held, LENT(host, sizes), bytes, count);
+}
+
 struct caif_reply call_level_one(struct host *host, const struct sizes *sizes, const uint8_t *bytes, size_t count)
 {
-    struct caif_reply reply = caif_call_level_one(LENT(host, sizes), bytes, count);
+    struct caif_reply reply = caif_call_level_one(host->held, LENT(host, sizes), bytes, count);
     host->held = reply.held;
     return reply;
 }
 
 struct caif_tank_answer desk(const struct host *host, const struct sizes *sizes, struct caif_tank tank)
 {
-    return caif_desk(tank, LENT(host, sizes));
+    return caif_desk(tank, host->held, LENT(host, sizes));
 }
 
 uint8_t shift(const struct host *host, const struct sizes *sizes, const struct caif_tank *tanks, size_t count,
               struct caif_tank_answer *answers, size_t lent)
 {
-    return caif_shift(tanks, count, answers, lent, LENT(host, sizes));
+    return caif_shift(tanks, count, answers, lent, host->held, LENT(host, sizes));
 }
 
 /* Fields are compared one by one: what stands in a struct's padding is nobody's concern. */
@@ -111,6 +117,7 @@ int main(void)
     check_layout();
     check_calls();
     check_refusals();
+    check_lent();
     check_level_one();
     check_desk();
     check_read_only();

@@ -36,6 +36,10 @@ void make_fresh(struct host *host);
 /* One call; the box record that comes back is kept. */
 struct caif_reply call(struct host *host, const struct sizes *sizes, const uint8_t *bytes, size_t count);
 
+/* The same on this box record, which is lent and may stand anywhere; the host's own is passed over. */
+struct caif_answer call_lent(struct caif_box *held, struct host *host, const struct sizes *sizes, const uint8_t *bytes,
+                             size_t count);
+
 /* The same through the level-one entry. */
 struct caif_reply call_level_one(struct host *host, const struct sizes *sizes, const uint8_t *bytes, size_t count);
 
@@ -51,12 +55,29 @@ void check_host(const struct host *is, const struct host *wanted, const char *la
 void check_reply(const struct caif_reply *reply, uint8_t code, uint64_t number, size_t used, uint16_t shown,
                  const char *label);
 
+/* The call on a copy of this box with its record lent: asserts this answer, and the box that is left. With a refusal every
+ * byte of the record must stand as it was, and the record may be one that cannot be written. */
+void check_call_lent(const struct host *host, const struct sizes *sizes, const uint8_t *bytes, size_t count,
+                     struct caif_answer wanted, const struct host *left, const char *label);
+
 /* The example on a fresh box, with no assertions. */
 void run_example(struct host *host);
+
+/* Every place taken, every heap, the shared memory and both tables full; place 0, whose identity is 1, runs. Gives the tags
+ * of the corrections 7 and 51, which it logged. */
+void make_full(struct host *host, uint64_t tags[2]);
+
+/* A copy on pages that cannot be written. */
+const void *locked(const void *from, size_t size);
+
+/* Whether this is so, asked in a child, which a fault ends. */
+enum outcome { RIGHT, WRONG, FAULTS };
+enum outcome in_child(bool (*is_so)(const void *), const void *with);
 
 void check_layout(void);
 void check_calls(void);
 void check_refusals(void);
+void check_lent(void);
 void check_level_one(void);
 void check_desk(void);
 void check_read_only(void);

@@ -10,10 +10,25 @@ static void check_aligned(void)
     ALIGNED(caif_log_row, 8);
     ALIGNED(caif_escrow_row, 8);
     ALIGNED(caif_reply, 8);
+    ALIGNED(caif_answer, 8);
     ALIGNED(caif_fields, 8);
     ALIGNED(caif_written, 8);
     ALIGNED(caif_tank, 8);
     ALIGNED(caif_tank_answer, 1);
+}
+
+#define TAIL(field)                                                                                            \
+    check(offsetof(struct caif_answer, field) + sizeof(struct caif_box) == offsetof(struct caif_reply, field), \
+          "layout", "caif_answer." #field)
+
+/* An answer without a box record is what follows the record in one with it. */
+static void check_answer(void)
+{
+    check(sizeof(struct caif_answer) + sizeof(struct caif_box) == sizeof(struct caif_reply), "layout", "size of caif_answer");
+    TAIL(code);
+    TAIL(number);
+    TAIL(used);
+    TAIL(shown);
 }
 
 /* The sizes that documents 01 and 02 name. */
@@ -139,4 +154,5 @@ void check_layout(void)
     check_codes();
     check_actions();
     check_aligned();
+    check_answer();
 }

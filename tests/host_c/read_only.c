@@ -29,8 +29,7 @@ struct trial {
     struct caif_tank_answer wanted;
 };
 
-/* A copy on pages that cannot be written. */
-static const void *locked(const void *from, size_t size)
+const void *locked(const void *from, size_t size)
 {
     void *pages = mmap(NULL, size, PROT_READ | PROT_WRITE, MAP_PRIVATE | MAP_ANONYMOUS, -1, 0);
     if (pages == MAP_FAILED)
@@ -73,10 +72,7 @@ static bool asks(const struct entries *entries, const struct trial *trial, const
            lists(entries, trial, tanks, CAIF_TANKS, MOST, CAIF_NOT_SOUND);
 }
 
-enum outcome { RIGHT, WRONG, FAULTS };
-
-/* In a child, which a fault ends. */
-static enum outcome tries(const struct entries *entries, const struct trial *trial, const struct caif_tank *tanks)
+enum outcome in_child(bool (*is_so)(const void *), const void *with)
 {
     int status;
     fflush(stdout);
@@ -86,13 +82,31 @@ static enum outcome tries(const struct entries *entries, const struct trial *tri
         setrlimit(RLIMIT_CORE, &none);
         signal(SIGSEGV, SIG_DFL);
         signal(SIGBUS, SIG_DFL);
-        _exit(asks(entries, trial, tanks) ? RIGHT : WRONG);
+        _exit(is_so(with) ? RIGHT : WRONG);
     }
     if (child < 0 || waitpid(child, &status, 0) != child)
         abort();
     if (WIFSIGNALED(status) && (WTERMSIG(status) == SIGSEGV || WTERMSIG(status) == SIGBUS))
         return FAULTS;
     return WIFEXITED(status) && WEXITSTATUS(status) == RIGHT ? RIGHT : WRONG;
+}
+
+/* What a child is asked. */
+struct question {
+    const struct entries *entries;
+    const struct trial *trial;
+    const struct caif_tank *tanks;
+};
+
+static bool asked(const void *with)
+{
+    const struct question *question = with;
+    return asks(question->entries, question->trial, question->tanks);
+}
+
+static enum outcome tries(const struct entries *entries, const struct trial *trial, const struct caif_tank *tanks)
+{
+    return in_child(asked, &(struct question){entries, trial, tanks});
 }
 
 static const struct entries the_desk = {desk, shift};
@@ -176,8 +190,7 @@ static uint64_t logs(struct host *host, uint8_t low, uint8_t high, uint16_t leng
 
 #define FIRST 2 /* rows of 2 bytes; the others of the log have 66 */
 
-/* Every place taken, every heap, the shared memory and both tables full. The tags of the corrections 7 and 51. */
-static void make_full(struct host *host, uint64_t tags[FIRST])
+void make_full(struct host *host, uint64_t tags[FIRST])
 {
     uint8_t bytes[CAIF_SHARED];
     make_fresh(host);

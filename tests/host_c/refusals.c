@@ -1,5 +1,5 @@
-/* Refusals through the header. Each alters nothing. A cut record gets how many bytes finish the field being read,
- * every other refusal number 0. */
+/* Refusals through the header, with the box record by value and lent. Each alters nothing. A cut record gets how many bytes
+ * finish the field being read, every other refusal number 0. */
 #include "host.h"
 
 static const uint8_t report[] = {0x01, 0x0D};
@@ -10,6 +10,7 @@ static void answered(struct host *host, const struct sizes *sizes, const uint8_t
 {
     static struct host before;
     before = *host;
+    check_call_lent(host, sizes, bytes, count, (struct caif_answer){code, number, used, 0}, &before, label);
     struct caif_reply reply = call(host, sizes, bytes, count);
     check_reply(&reply, code, number, used, 0, label);
     check_host(host, &before, label);

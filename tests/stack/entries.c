@@ -6,6 +6,7 @@ static struct lent mine;
 static uint8_t room[CAIF_RECORD + 1];
 static struct caif_box fresh;
 static struct caif_reply reply;
+static struct caif_answer lent_answer;
 static struct caif_written written;
 static struct caif_tank tanks[MOST_TANKS];
 static struct caif_tank_answer decided, answers[MOST_TANKS];
@@ -13,9 +14,9 @@ static uint8_t refused;
 
 #define UNSAID 0xEE
 
-#define LENT                                                                                                        \
-    mine.held, mine.log, now->sizes.log, mine.escrow, now->sizes.escrow, mine.heaps, now->sizes.heaps, mine.shared, \
-        now->sizes.shared, mine.log_values, now->sizes.log_values, mine.escrow_values, now->sizes.escrow_values,    \
+#define LENT                                                                                                      \
+    mine.log, now->sizes.log, mine.escrow, now->sizes.escrow, mine.heaps, now->sizes.heaps, mine.shared,          \
+        now->sizes.shared, mine.log_values, now->sizes.log_values, mine.escrow_values, now->sizes.escrow_values,  \
         mine.output, now->sizes.output
 
 static void call_fresh(void)
@@ -25,12 +26,17 @@ static void call_fresh(void)
 
 static void call_call(void)
 {
-    reply = caif_call(LENT, world->bytes + now->at, now->count);
+    reply = caif_call(mine.held, LENT, world->bytes + now->at, now->count);
+}
+
+static void call_lent(void)
+{
+    lent_answer = caif_call_lent(&mine.held, LENT, world->bytes + now->at, now->count);
 }
 
 static void call_level_one(void)
 {
-    reply = caif_call_level_one(LENT, world->bytes + now->at, now->count);
+    reply = caif_call_level_one(mine.held, LENT, world->bytes + now->at, now->count);
 }
 
 static void call_write(void)
@@ -40,17 +46,18 @@ static void call_write(void)
 
 static void call_desk(void)
 {
-    decided = caif_desk(tanks[0], LENT);
+    decided = caif_desk(tanks[0], mine.held, LENT);
 }
 
 static void call_shift(void)
 {
-    refused = caif_shift(tanks, now->tanks, answers, now->answers, LENT);
+    refused = caif_shift(tanks, now->tanks, answers, now->answers, mine.held, LENT);
 }
 
-const char *const entry_names[ENTRIES] = {"caif_fresh", "caif_call", "caif_call_level_one",
+const char *const entry_names[ENTRIES] = {"caif_fresh", "caif_call", "caif_call_lent", "caif_call_level_one",
                                           "caif_write", "caif_desk", "caif_shift"};
-void (*const callers[ENTRIES])(void) = {call_fresh, call_call, call_level_one, call_write, call_desk, call_shift};
+void (*const callers[ENTRIES])(void) = {call_fresh, call_call, call_lent, call_level_one,
+                                        call_write, call_desk, call_shift};
 
 /* The trial's input, and answers that no entry gives. */
 void take(const struct trial *trial)
@@ -58,7 +65,7 @@ void take(const struct trial *trial)
     now = trial;
     copy(&mine, &world->boxes[trial->box], sizeof mine);
     fresh.running = UNSAID;
-    reply.code = written.code = refused = UNSAID;
+    reply.code = lent_answer.code = written.code = refused = UNSAID;
     decided = (struct caif_tank_answer){UNSAID, UNSAID, UNSAID};
     for (size_t n = 0; n < MOST_TANKS; n++) {
         tanks[n] = trial->tank;
@@ -88,6 +95,8 @@ struct answer given(void)
     switch (now->entry) {
     case FRESH:
         return (struct answer){fresh.running == CAIF_NONE ? 0 : UNSAID, fresh.taken};
+    case CALL_LENT:
+        return (struct answer){lent_answer.code, lent_answer.number};
     case WRITE:
         return (struct answer){written.code, written.length};
     case DESK:

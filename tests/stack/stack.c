@@ -169,7 +169,7 @@ static size_t measured(const struct trial *trial)
 /* The kind in a trial's record; 0 where there is none. */
 static unsigned kind_of(const struct trial *trial)
 {
-    bool read = trial->entry == CALL || trial->entry == LEVEL_ONE;
+    bool read = trial->entry >= CALL && trial->entry <= LEVEL_ONE;
     return !read || trial->count < 2 ? trial->kind : world->bytes[trial->at + 1];
 }
 

@@ -30,7 +30,7 @@ struct sizes {
 extern const struct sizes right_sizes;
 
 /* The functions that the header declares. */
-enum entry { FRESH, CALL, LEVEL_ONE, WRITE, DESK, SHIFT, ENTRIES };
+enum entry { FRESH, CALL, CALL_LENT, LEVEL_ONE, WRITE, DESK, SHIFT, ENTRIES };
 
 /* What an entry answers: a call its code and number; the writer its code and the length; the desk its code, and action and
  * refusal as one number; a list the same of all its tanks, where they are alike. */

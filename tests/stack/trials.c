@@ -1,4 +1,4 @@
-/* Every trial of the two entries that run a record: each kind on a fresh box, on one with a few rows and on full ones,
+/* Every trial of the three entries that run a record: each kind on a fresh box, on one with a few rows and on full ones,
  * accepted and refused; chains; malformed records; wrong sizes and boxes that are not sound. */
 #include "stack.h"
 
@@ -29,7 +29,7 @@ struct trial *add(enum entry entry, const char *where, const char *name, unsigne
     return trial;
 }
 
-/* These bytes as a record, to both entries. The level-one entry has a code of its own, or answers alike. */
+/* These bytes as a record, to each of the three. The level-one entry has a code of its own, or answers alike. */
 static void tries_bytes(const char *where, const char *name, unsigned box, struct sizes sizes, const uint8_t *bytes,
                         size_t count, struct answer wanted, uint8_t level_one)
 {
@@ -43,7 +43,7 @@ static void tries_bytes(const char *where, const char *name, unsigned box, struc
         trial->sizes = sizes;
         trial->at = at;
         trial->count = count;
-        trial->wanted = entry == CALL || level_one == ALIKE ? wanted : (struct answer){level_one, 0};
+        trial->wanted = entry != LEVEL_ONE || level_one == ALIKE ? wanted : (struct answer){level_one, 0};
     }
 }
 

@@ -1,23 +1,26 @@
--- A call on the copies of lent rows is a call on the lent rows; and rows that no sound box has are refused. Assumes nothing.
+-- A call on the copies of lent rows is a call on the lent rows; rows that no sound box has are refused; and a refusal leaves the box record. Assumes nothing.
 use Prim.Native.Nat.{ℕ}
-use mathlib.Core.Path.{_≡_}
-use mathlib.Core.Bool.{false}
+use mathlib.Core.Path.{_≡_, sym, ap, _∙_}
+use mathlib.Core.Bool.{false, true≢false}
+use lib.Dec.{eqb}
 use mathlib.Core.List.{List}
 use lib.ListN.{length}
 use Rattle.ideal.specs.declared.BoxRecord.{BoxRecord}
 use Rattle.ideal.specs.declared.Profile.{Profile}
+use Rattle.ideal.specs.declared.Profile.the-variants.{Full, LevelOne}
 use Rattle.ideal.specs.declared.LogRow.{LogRow}
 use Rattle.ideal.specs.declared.EscrowRow.{EscrowRow}
 use Rattle.ideal.specs.LevelOne.{refusalIn, boxOf}
-use Rattle.ideal.specs.Tables.{lentTables}
+use Rattle.ideal.specs.Tables.{Tables, lentTables}
 use Rattle.state.specs.declared.LogTable.{LogTable}
 use Rattle.state.specs.declared.EscrowTable.{EscrowTable}
 use Rattle.state.specs.declared.Change.{Change}
 use Rattle.state.specs.Answers.{refusedWith}
 use Rattle.state.specs.Edits.{logEdited, escrowEdited, Fits, EditsBy}
 use Rattle.state.proofs.Edited.{escrow-fits}
-use Rattle.calls.specs.Entry.{resultOf, readyOn, entryOn}
+use Rattle.calls.specs.Entry.{EntryResult, EntryRefuses, resultOf, readyOn, entryOn}
 use Rattle.calls.proofs.Whole.{refused-entry}
+use Rattle.calls.proofs.Refuses.{entry-refuses, level-one-refuses}
 use Rattle.caif.specs.declared.LentReply.{LentReply}
 use Rattle.caif.specs.Lent.{lentResult}
 
@@ -57,3 +60,18 @@ pub refused-result : (p : Profile) (b : BoxRecord) (logRows : List LogRow) (escr
     ≡ entryOn (boxOf p) (lentTables b logRows escrowRows heaps shared lv ev) bytes output
 refused-result p b logRows escrowRows heaps shared lv ev output bytes e =
     refused-entry (refusalIn p) (lentTables b logRows escrowRows heaps shared lv ev) bytes output e
+
+refuses-in : (p : Profile) → EntryRefuses (boxOf p)
+refuses-in Full = entry-refuses
+refuses-in LevelOne = level-one-refuses
+
+pub refused-leaves : (p : Profile) (b : BoxRecord) (logRows : List LogRow) (escrowRows : List EscrowRow) (heaps shared lv ev output bytes : List ℕ) (r : LentReply)
+    {logRows′ : List LogRow} {escrowRows′ : List EscrowRow} {heaps′ shared′ lv′ ev′ output′ : List ℕ}
+    → lentResult r logRows′ escrowRows′ heaps′ shared′ lv′ ev′ output′ ≡ entryOn (boxOf p) (lentTables b logRows escrowRows heaps shared lv ev) bytes output
+    → (r .answer .code ≡ 0 → ⊥) → r .held ≡ b
+refused-leaves p b logRows escrowRows heaps shared lv ev output bytes r e refused =
+    ap (λ (x : EntryResult). x .tables .box) e
+    ∙ ap (λ (t : Tables). t .box) (refuses-in p (lentTables b logRows escrowRows heaps shared lv ev) bytes output (λ z. refused (ap (λ (x : EntryResult). x .answer .code) e ∙ z)) .tables)
+
+pub not-zero : (n : ℕ) → eqb n 0 ≡ false → n ≡ 0 → ⊥
+not-zero n e z = true≢false (sym (ap (λ (m : ℕ). eqb m 0) z) ∙ e)

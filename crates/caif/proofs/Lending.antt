@@ -1,4 +1,5 @@
--- What the walks over lent rows and buffers name: the buffers, their room and their last lists; the machine values of a profile and a reply.
+-- What the walks over lent rows and buffers name: the buffers, their room and their last lists; the machine values of a profile, a reply
+-- and an answer.
 -- Assumes nothing.
 use Prim.Native.Nat.{ℕ}
 use mathlib.Core.List.{List, [], _∷_}
@@ -14,6 +15,8 @@ use Rattle.ideal.specs.declared.Profile.the-variants.{Full, LevelOne}
 use Rattle.ideal.proofs.Profile as P
 use Rattle.ideal.proofs.Profile.Laws as P′
 use Rattle.lending.proofs.Kind.{Kind}
+use Rattle.state.proofs.Answer as N
+use Rattle.state.proofs.Answer.Laws as N′
 use Rattle.caif.proofs.LentReply as Z
 use Rattle.caif.proofs.LentReply.Laws as Z′
 
@@ -30,6 +33,9 @@ profile-is LevelOne = E.owes P.the-type P′.the-laws LevelOne tt
 
 abbrev pub reply : Kind
 reply = record { type = Z.the-type; laws = Z′.the-laws; facts = Z′.the-plain; copies = Z′.the-copy; small = tt }
+
+abbrev pub answer : Kind
+answer = record { type = N.the-type; laws = N′.the-laws; facts = N′.the-plain; copies = N′.the-copy; small = tt }
 
 -- the lent byte buffers and the record's bytes
 abbrev pub Buffers : Type 0

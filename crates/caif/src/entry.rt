@@ -1,4 +1,4 @@
-// What both entries call.
+// What the entries call.
 ghost use mathlib.Core.Path.{_≡_};
 ghost use Rattle.ideal.specs.LevelOne.{boxOf};
 ghost use Rattle.ideal.specs.Tables.{lentTables};
@@ -11,11 +11,12 @@ use ideal::EscrowRow;
 use ideal::LogRow;
 use ideal::Profile;
 
-// lent_call, and no more. It has this caller alone, so the compiler joins the two and then leaves out copies of the tables,
-// which it keeps where both entries call lent_call (docs/DECISIONS.md).
+// lent_call, on a box record that is lent to be read, and no more. It has this caller alone, so the compiler joins the two and
+// then leaves out copies of the tables, which it keeps where the entries call lent_call. A record by value would be copied
+// for the call by an entry to which it is lent (docs/DECISIONS.md).
 pub fn entry_call(
     profile: Profile,
-    held: BoxRecord,
+    held: &BoxRecord,
     log: &mut [LogRow],
     escrow: &mut [EscrowRow],
     heaps: &mut [u8],
@@ -27,13 +28,13 @@ pub fn entry_call(
 ) -> LentReply
     ensures { λ r. ⌜
         lentResult r (now (log .exit)) (now (escrow .exit)) (now (heaps .exit)) (now (shared .exit)) (now («log_values» .exit)) (now («escrow_values» .exit)) (now (output .exit))
-        ≡ entryOn (boxOf profile) (lentTables held (now (log .entry)) (now (escrow .entry)) (now (heaps .entry)) (now (shared .entry)) (now («log_values» .entry)) (now («escrow_values» .entry)))
+        ≡ entryOn (boxOf profile) (lentTables (now (held .entry)) (now (log .entry)) (now (escrow .entry)) (now (heaps .entry)) (now (shared .entry)) (now («log_values» .entry)) (now («escrow_values» .entry)))
         (now (bytes .entry)) (now (output .entry))
         ⌝ }
 {
     lent_call(
         profile,
-        held,
+        *held,
         log,
         escrow,
         heaps,

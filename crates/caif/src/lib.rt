@@ -1,6 +1,7 @@
 // The box for hosts in C: what include/caif.h declares.
 mod entry;
 mod lent;
+mod lent_record;
 mod refusal;
 mod writing;
 
@@ -15,6 +16,7 @@ use ideal::BoxRecord;
 use ideal::EscrowRow;
 use ideal::LogRow;
 use ideal::Profile;
+pub use lent_record::caif_call_lent;
 use state::Answer;
 use state::fresh_record;
 pub use writing::caif_write;
@@ -62,7 +64,7 @@ pub extern "C" fn caif_call(
 {
     entry_call(
         Profile::Full,
-        held,
+        &held,
         log,
         escrow,
         heaps,
@@ -95,7 +97,7 @@ pub extern "C" fn caif_call_level_one(
 {
     entry_call(
         Profile::LevelOne,
-        held,
+        &held,
         log,
         escrow,
         heaps,

@@ -5,6 +5,7 @@ pub mod HandOn
 pub mod Kind
 pub mod LocalRows
 pub mod Locals
+pub mod InMemory
 pub mod PutRow
 pub mod RowAt
 pub mod Says

@@ -4,6 +4,9 @@
 --     Typed E i τ         local i of the environment E is of the type τ
 --     Locals H E ss       the entry: the locals of E, holding ss
 --     spot, inside, sets  a local's place is found; what it holds is read, whole or in part; it is written
+--     LocalsBut H E j ss  the same without local j, whose memory is an entry of its own, as while the local is lent
+--     inside-but          another local is read meanwhile
+--     lifts-out, puts-back    local j is taken out of the locals, and put back as it was
 --     allocates, frees-all    the locals are allocated, and freed, whatever they hold
 --     keeps, trims        the first n locals as they are, and the others free; a turn of a loop ends so
 --     relends             a reference to what the slice in local j refers to is made in local c, through the pointer in local a
@@ -66,13 +69,19 @@ put-same (suc i) v (s ∷ ss) h = ap (λ (zs : List Slot). s ∷ zs) (put-same i
 
 -- ---- the entry
 module _ {M : Type 1} (𝓤 : URA M) (H : Heap 𝓤) where
-  abbrev cell : Ty × ℕ → Slot → SProp 𝓤
+  abbrev pub cell : Ty × ℕ → Slot → SProp 𝓤
   cell e free = H .room (e .0) (e .1) zero
   cell e (has v) = H .at fullShare (e .0) (e .1) zero v
 
   unfoldable pub hold : Env 𝓤 H → List Slot → SProp 𝓤
   hold [] ss = emp 𝓤
   hold (e ∷ E) ss = sep 𝓤 (sep 𝓤 (cell e (first-of ss)) (H .dies (e .0) (e .1))) (hold E (rest-of ss))
+
+  -- the locals but local j
+  unfoldable pub hold-but : Env 𝓤 H → ℕ → List Slot → SProp 𝓤
+  hold-but [] j ss = emp 𝓤
+  hold-but (e ∷ E) zero ss = sep 𝓤 (H .dies (e .0) (e .1)) (hold E (rest-of ss))
+  hold-but (e ∷ E) (suc j) ss = sep 𝓤 (sep 𝓤 (cell e (first-of ss)) (H .dies (e .0) (e .1))) (hold-but E j (rest-of ss))
 
   abbrev pub Typed : Env 𝓤 H → ℕ → Ty → Type 0
   Typed [] i τ = ⊥
@@ -91,6 +100,10 @@ module _ {M : Type 1} (𝓤 : URA M) (H : Heap 𝓤) where
   abbrev Way : Env 𝓤 H → ℕ → List Slot → Ty → SProp 𝓤
   Way E i ss τ = all 𝓤 (λ (u : Val). wand 𝓤 (H .at fullShare τ (block E i) zero u) (hold E (put i u ss)))
 
+  -- a cell that holds v is in P, and can be put back
+  abbrev Peek : SProp 𝓤 → Ty → ℕ → Val → Type 1
+  Peek P τ b v = ent 𝓤 P (sep 𝓤 (H .at fullShare τ b zero v) (wand 𝓤 (H .at fullShare τ b zero v) P))
+
   -- the blocks that are allocated for a function's locals, and the environment that they make
   abbrev pub Blocks : List Local → Type 0
   Blocks [] = Unit {0}
@@ -106,6 +119,18 @@ pub data Of (E : List (Ty × ℕ)) (ss : List Slot) : Type 0 where
 
 abbrev pub Locals : {M : Type 1} {𝓤 : URA M} (H : Heap 𝓤) → Env 𝓤 H → List Slot → Item 𝓤
 Locals {M} {𝓤} H E ss = given (Of E ss) (raw (hold 𝓤 H E ss))
+
+pub data But (E : List (Ty × ℕ)) (j : ℕ) (ss : List Slot) : Type 0 where
+  but : But E j ss
+
+abbrev pub LocalsBut : {M : Type 1} {𝓤 : URA M} (H : Heap 𝓤) → Env 𝓤 H → ℕ → List Slot → Item 𝓤
+LocalsBut {M} {𝓤} H E j ss = given (But E j ss) (raw (hold-but 𝓤 H E j ss))
+
+abbrev pub Apart : ℕ → ℕ → Type 0
+Apart zero zero = ⊥
+Apart zero (suc j) = Unit {0}
+Apart (suc i) zero = Unit {0}
+Apart (suc i) (suc j) = Apart i j
 
 module _ {M : Type 1} (𝓤 : URA M) (H : Heap 𝓤) (A : Atoms 𝓤) (W : Given 𝓤 H A) where
   roomy : (e : Ty × ℕ) (s : Slot) → ent 𝓤 (cell 𝓤 H e s) (H .room (e .0) (e .1) zero)
@@ -134,6 +159,54 @@ module _ {M : Type 1} (𝓤 : URA M) (H : Heap 𝓤) (A : Atoms 𝓤) (W : Given
       -- [local i with u; the way back of the locals after the first; the first]
       move ! (1 ∷ 0 ∷ []) $ use2 W (raw (hold 𝓤 H E (put i u (rest-of ss)))) (back E i (rest-of ss) τ u) $ move ! (1 ∷ 0 ∷ []) $ done !)
 
+  -- local j apart from the others, and among them again
+  apart : (E : Env 𝓤 H) (j : ℕ) (ss : List Slot) (τ : Ty) → Typed 𝓤 H E j τ → ent 𝓤 (hold 𝓤 H E ss) (sep 𝓤 (cell 𝓤 H (τ, block 𝓤 H E j) (slot j ss)) (hold-but 𝓤 H E j ss))
+  unfolding hold hold-but
+  apart [] j ss τ n = absurd n
+  apart (e ∷ E) zero ss τ n =
+      subst (λ (σ : Ty). ent 𝓤 (hold 𝓤 H (e ∷ E) ss) (sep 𝓤 (cell 𝓤 H (σ, e .1) (first-of ss)) (hold-but 𝓤 H (e ∷ E) zero ss))) n
+      (qed W ((raw (cell 𝓤 H e (first-of ss)) ⊛ raw (H .dies (e .0) (e .1))) ∷ raw (hold 𝓤 H E (rest-of ss)) ∷ []) ∵ split ! $ frame ! $ done !)
+  apart (e ∷ E) (suc j) ss τ n =
+      qed W ((raw (cell 𝓤 H e (first-of ss)) ⊛ raw (H .dies (e .0) (e .1))) ∷ raw (hold 𝓤 H E (rest-of ss)) ∷ []) ∵ move ! (1 ∷ []) $
+      use1 W (raw (cell 𝓤 H (τ, block 𝓤 H E j) (slot j (rest-of ss))) ⊛ raw (hold-but 𝓤 H E j (rest-of ss))) (apart E j (rest-of ss) τ n) $ split ! $ frame ! $ move ! (1 ∷ 0 ∷ []) $ done !
+
+  together : (E : Env 𝓤 H) (j : ℕ) (ss : List Slot) (τ : Ty) → Typed 𝓤 H E j τ → ent 𝓤 (sep 𝓤 (hold-but 𝓤 H E j ss) (cell 𝓤 H (τ, block 𝓤 H E j) (slot j ss))) (hold 𝓤 H E ss)
+  unfolding hold hold-but
+  together [] j ss τ n = absurd n
+  together (e ∷ E) zero ss τ n =
+      subst (λ (σ : Ty). ent 𝓤 (sep 𝓤 (hold-but 𝓤 H (e ∷ E) zero ss) (cell 𝓤 H (σ, e .1) (first-of ss))) (hold 𝓤 H (e ∷ E) ss)) n
+      (qed W ((raw (H .dies (e .0) (e .1)) ⊛ raw (hold 𝓤 H E (rest-of ss))) ∷ raw (cell 𝓤 H e (first-of ss)) ∷ []) ∵ split ! $ move ! (2 ∷ 0 ∷ []) $ join ! $ done !)
+  together (e ∷ E) (suc j) ss τ n =
+      qed W (((raw (cell 𝓤 H e (first-of ss)) ⊛ raw (H .dies (e .0) (e .1))) ⊛ raw (hold-but 𝓤 H E j (rest-of ss))) ∷ raw (cell 𝓤 H (τ, block 𝓤 H E j) (slot j (rest-of ss))) ∷ []) ∵ split ! $ frame ! $
+      by ! (together E j (rest-of ss) τ n)
+
+  peek : (E : Env 𝓤 H) (i : ℕ) (ss : List Slot) (τ : Ty) (v : Val) → Typed 𝓤 H E i τ → slot i ss ≡ has v → Peek 𝓤 H (hold 𝓤 H E ss) τ (block 𝓤 H E i) v
+  peek E i ss τ v n h =
+      qed W (raw (hold 𝓤 H E ss) ∷ []) ∵
+      use1 W (‵ (fat fullShare τ (block 𝓤 H E i) zero v) ⊛ raw (Way 𝓤 H E i ss τ))
+      (subst (λ (z : Slot). ent 𝓤 (hold 𝓤 H E ss) (sep 𝓤 (cell 𝓤 H (τ, block 𝓤 H E i) z) (Way 𝓤 H E i ss τ))) h (taken E i ss τ n)) $ split ! $ frame ! $
+      assume {P = hold 𝓤 H E ss} ! (‵ (fat fullShare τ (block 𝓤 H E i) zero v)) $ move ! (1 ∷ 0 ∷ []) $
+      use2 W (raw (hold 𝓤 H E ss)) (subst (λ (zs : List Slot). ent 𝓤 (sep 𝓤 (Way 𝓤 H E i ss τ) (H .at fullShare τ (block 𝓤 H E i) zero v)) (hold 𝓤 H E zs)) (put-same i v ss h) (back E i ss τ v)) $ done !
+
+  beside : (X P : SProp 𝓤) {τ : Ty} {b : ℕ} {v : Val} → Peek 𝓤 H P τ b v → Peek 𝓤 H (sep 𝓤 X P) τ b v
+  beside X P {τ} {b} {v} k =
+      qed W (raw X ∷ raw P ∷ []) ∵ move ! (1 ∷ []) $ use1 W (‵ (fat fullShare τ b zero v) ⊛ raw (wand 𝓤 (H .at fullShare τ b zero v) P)) k $ split ! $ frame ! $
+      assume {P = sep 𝓤 X P} ! (‵ (fat fullShare τ b zero v)) $ use2 W (raw P) (apply∗ 𝓤 (H .at fullShare τ b zero v) P) $ move ! (1 ∷ 0 ∷ []) $ done !
+
+  peek-but : (E : Env 𝓤 H) (i j : ℕ) (ss : List Slot) (τ : Ty) (v : Val) → Apart i j → Typed 𝓤 H E i τ → slot i ss ≡ has v → Peek 𝓤 H (hold-but 𝓤 H E j ss) τ (block 𝓤 H E i) v
+  unfolding hold-but
+  peek-but [] i j ss τ v d n h = absurd n
+  peek-but (e ∷ E) zero zero ss τ v d n h = absurd d
+  peek-but (e ∷ E) zero (suc j) ss τ v d n h =
+      subst (λ (σ : Ty). Peek 𝓤 H (hold-but 𝓤 H (e ∷ E) (suc j) ss) σ (e .1) v) n
+      (qed W ((raw (cell 𝓤 H e (first-of ss)) ⊛ raw (H .dies (e .0) (e .1))) ∷ raw (hold-but 𝓤 H E j (rest-of ss)) ∷ []) ∵ split ! $
+      use1 W (‵ (fat fullShare (e .0) (e .1) zero v)) (subst (λ (z : Slot). ent 𝓤 (cell 𝓤 H e (first-of ss)) (cell 𝓤 H e z)) h (id⊢ 𝓤 _)) $ frame ! $
+      assume {P = hold-but 𝓤 H (e ∷ E) (suc j) ss} ! (‵ (fat fullShare (e .0) (e .1) zero v)) $
+      use1 W (raw (cell 𝓤 H e (first-of ss))) (subst (λ (z : Slot). ent 𝓤 (cell 𝓤 H e z) (cell 𝓤 H e (first-of ss))) h (id⊢ 𝓤 _)) $ join ! $ done !)
+  peek-but (e ∷ E) (suc i) zero ss τ v d n h = beside (H .dies (e .0) (e .1)) (hold 𝓤 H E (rest-of ss)) (peek E i (rest-of ss) τ v n h)
+  peek-but (e ∷ E) (suc i) (suc j) ss τ v d n h =
+      beside (sep 𝓤 (cell 𝓤 H e (first-of ss)) (H .dies (e .0) (e .1))) (hold-but 𝓤 H E j (rest-of ss)) (peek-but E i j (rest-of ss) τ v d n h)
+
   released : (E : Env 𝓤 H) (ss : List Slot) (P : SProp 𝓤) → ent 𝓤 (sep 𝓤 (hold 𝓤 H E ss) P) (release 𝓤 H E P)
   unfolding hold
   released [] ss P = snd∗ 𝓤 (emp 𝓤) P
@@ -160,6 +233,29 @@ module _ {M : Type 1} (𝓤 : URA M) (H : Heap 𝓤) (A : Atoms 𝓤) (W : Given
       qed W (raw (hold 𝓤 H (envOf 𝓤 H ls bs) []) ∷ raw P ∷ (raw (H .room τ b zero) ⊛ raw (H .dies τ b)) ∷ []) ∵ move ! (2 ∷ 0 ∷ []) $ join ! $ by ! (k (b, bs)))))
 
 -- ---- the rules
+module _ {M : Type 1} {𝓤 : URA M} {H : Heap 𝓤} {A : Atoms 𝓤} {K : Type 0} {W : Given 𝓤 H A} {Γ : List (Item 𝓤)} where
+  -- a cell of entry n is read
+  reads-in : K → (n : ℕ) {Φ : Type 0} {P : SProp 𝓤} {τ τ′ : Ty} {v v′ : Val} {s : Share} {l b o : ℕ} {way : Val → Item 𝓤}
+      → nth 𝓤 H A n Γ ≡ given Φ (raw P) → Φ → Peek 𝓤 H P τ l v → Part K W (‵ (fat fullShare τ l zero v)) s τ′ b o v′ way → Reads K W Γ τ′ b o v′
+  reads-in t n {Φ} {P} {τ} {v = v} {l = l} at-n φ peeked p = record { go = λ Kt g. via 𝓤 (⋆ 𝓤 H A Δ) out (look-in {Γ = Δ} t 0 p .go Kt (via 𝓤 (⋆ 𝓤 H A Γ) again g)) }
+    where
+      Back : SProp 𝓤
+      Back = wand 𝓤 (H .at fullShare τ l zero v) P
+
+      Δ : List (Item 𝓤)
+      Δ = ‵ (fat fullShare τ l zero v) ∷ raw Back ∷ raw (⋆ 𝓤 H A (del 𝓤 H A n Γ)) ∷ []
+
+      out : ent 𝓤 (⋆ 𝓤 H A Γ) (⋆ 𝓤 H A Δ)
+      out = via 𝓤 (sep 𝓤 (mean 𝓤 H A (nth 𝓤 H A n Γ)) (⋆ 𝓤 H A (del 𝓤 H A n Γ))) (pull 𝓤 H A n Γ)
+          (subst (λ (j : Item 𝓤). ent 𝓤 (sep 𝓤 (mean 𝓤 H A j) (⋆ 𝓤 H A (del 𝓤 H A n Γ))) (⋆ 𝓤 H A Δ)) (sym at-n)
+          (qed W (given Φ (raw P) ∷ raw (⋆ 𝓤 H A (del 𝓤 H A n Γ)) ∷ []) ∵ learn ! (λ _. use1 W (‵ (fat fullShare τ l zero v) ⊛ raw Back) peeked $ split ! $ done !)))
+
+      again : ent 𝓤 (⋆ 𝓤 H A Δ) (⋆ 𝓤 H A Γ)
+      again = via 𝓤 (sep 𝓤 (mean 𝓤 H A (nth 𝓤 H A n Γ)) (⋆ 𝓤 H A (del 𝓤 H A n Γ)))
+          (subst (λ (j : Item 𝓤). ent 𝓤 (⋆ 𝓤 H A Δ) (sep 𝓤 (mean 𝓤 H A j) (⋆ 𝓤 H A (del 𝓤 H A n Γ)))) (sym at-n)
+          (qed W Δ ∵ use2 W (given Φ (raw P)) (via 𝓤 P (apply∗ 𝓤 (H .at fullShare τ l zero v) P) (guardI 𝓤 Φ P φ)) $ done !))
+          (unpull 𝓤 H A n Γ)
+
 module _ {M : Type 1} {𝓤 : URA M} {H : Heap 𝓤} {A : Atoms 𝓤} {K : Type 0} {W : Given 𝓤 H A} {E : Env 𝓤 H} {Γ : List (Item 𝓤)} where
   pub spot : K → {i : ℕ} {st : List PStep} {τ : Ty} {sp : Spot 𝓤 H} → Typed 𝓤 H E i τ → Walks K W Γ E (τ, block 𝓤 H E i, zero) st sp → Finds K W Γ E (place i st) sp
   spot t {i} {st} {τ} {sp} n w = from t (subst (λ (σ : Ty). Walks K W Γ E (σ, block 𝓤 H E i, zero) st sp) (sym (typed-is 𝓤 H E i τ n)) w)
@@ -167,25 +263,12 @@ module _ {M : Type 1} {𝓤 : URA M} {H : Heap 𝓤} {A : Atoms 𝓤} {K : Type 
   -- within what local i holds a cell is read: the locals are entry n
   pub inside : K → (n i : ℕ) {ss : List Slot} {τ τ′ : Ty} {v v′ : Val} {s : Share} {b o : ℕ} {way : Val → Item 𝓤}
       → nth 𝓤 H A n Γ ≡ Locals H E ss → Typed 𝓤 H E i τ → slot i ss ≡ has v → Part K W (‵ (fat fullShare τ (block 𝓤 H E i) zero v)) s τ′ b o v′ way → Reads K W Γ τ′ b o v′
-  inside t n i {ss} {τ} {v = v} at-n ty h p = record { go = λ Kt g. via 𝓤 (⋆ 𝓤 H A Δ) out (look-in {Γ = Δ} t 0 p .go Kt (via 𝓤 (⋆ 𝓤 H A Γ) again g)) }
-    where
-      Δ : List (Item 𝓤)
-      Δ = ‵ (fat fullShare τ (block 𝓤 H E i) zero v) ∷ raw (Way 𝓤 H E i ss τ) ∷ raw (⋆ 𝓤 H A (del 𝓤 H A n Γ)) ∷ []
+  inside t n i {ss} {τ} {v = v} at-n ty h p = reads-in t n at-n of (peek 𝓤 H A W E i ss τ v ty h) p
 
-      out : ent 𝓤 (⋆ 𝓤 H A Γ) (⋆ 𝓤 H A Δ)
-      out = via 𝓤 (sep 𝓤 (mean 𝓤 H A (nth 𝓤 H A n Γ)) (⋆ 𝓤 H A (del 𝓤 H A n Γ))) (pull 𝓤 H A n Γ)
-          (subst (λ (j : Item 𝓤). ent 𝓤 (sep 𝓤 (mean 𝓤 H A j) (⋆ 𝓤 H A (del 𝓤 H A n Γ))) (⋆ 𝓤 H A Δ)) (sym at-n)
-          (qed W (Locals H E ss ∷ raw (⋆ 𝓤 H A (del 𝓤 H A n Γ)) ∷ []) ∵ learn ! (λ _.
-          use1 W (‵ (fat fullShare τ (block 𝓤 H E i) zero v) ⊛ raw (Way 𝓤 H E i ss τ))
-          (subst (λ (z : Slot). ent 𝓤 (hold 𝓤 H E ss) (sep 𝓤 (cell 𝓤 H (τ, block 𝓤 H E i) z) (Way 𝓤 H E i ss τ))) h (taken 𝓤 H A W E i ss τ ty)) $ split ! $ done !)))
-
-      again : ent 𝓤 (⋆ 𝓤 H A Δ) (⋆ 𝓤 H A Γ)
-      again = via 𝓤 (sep 𝓤 (mean 𝓤 H A (nth 𝓤 H A n Γ)) (⋆ 𝓤 H A (del 𝓤 H A n Γ)))
-          (subst (λ (j : Item 𝓤). ent 𝓤 (⋆ 𝓤 H A Δ) (sep 𝓤 (mean 𝓤 H A j) (⋆ 𝓤 H A (del 𝓤 H A n Γ)))) (sym at-n)
-          (qed W Δ ∵ move ! (1 ∷ 0 ∷ []) $ use2 W (Locals H E ss)
-          (via 𝓤 (hold 𝓤 H E (put i v ss)) (back 𝓤 H A W E i ss τ v)
-          (subst (λ (zs : List Slot). ent 𝓤 (hold 𝓤 H E zs) (guard 𝓤 (Of E ss) (hold 𝓤 H E ss))) (sym (put-same i v ss h)) (guardI 𝓤 (Of E ss) (hold 𝓤 H E ss) of))) $ done !))
-          (unpull 𝓤 H A n Γ)
+  -- and while local j is out
+  pub inside-but : K → (n i : ℕ) {j : ℕ} {ss : List Slot} {τ τ′ : Ty} {v v′ : Val} {s : Share} {b o : ℕ} {way : Val → Item 𝓤}
+      → nth 𝓤 H A n Γ ≡ LocalsBut H E j ss → Apart i j → Typed 𝓤 H E i τ → slot i ss ≡ has v → Part K W (‵ (fat fullShare τ (block 𝓤 H E i) zero v)) s τ′ b o v′ way → Reads K W Γ τ′ b o v′
+  inside-but t n i {j} {ss} {τ} {v = v} at-n d ty h p = reads-in t n at-n but (peek-but 𝓤 H A W E i j ss τ v d ty h) p
 
 module _ {M : Type 1} {𝓤 : URA M} {H : Heap 𝓤} {A : Atoms 𝓤} {K : Type 0} {W : Given 𝓤 H A} {E : Env 𝓤 H} {ss : List Slot} where
   module _ {Γ : List (Item 𝓤)} where
@@ -198,6 +281,13 @@ module _ {M : Type 1} {𝓤 : URA M} {H : Heap 𝓤} {A : Atoms 𝓤} {K : Type 
           move ! (1 ∷ 0 ∷ []) $ use2 W (Locals H E (put i v ss)) (via 𝓤 (hold 𝓤 H E (put i v ss)) (back 𝓤 H A W E i ss τ v) (guardI 𝓤 (Of E (put i v ss)) (hold 𝓤 H E (put i v ss)) of)) $
           by ! (via 𝓤 (⋆ 𝓤 H A (Locals H E (put i v ss) ∷ Γ)) (push 𝓤 H A (Locals H E (put i v ss)) Γ) h)));
     }
+
+    pub lifts-out : K → (j : ℕ) (τ : Ty) {g : Goal 𝓤 H} → Typed 𝓤 H E j τ → Step K W (raw (cell 𝓤 H (τ, block 𝓤 H E j) (slot j ss)) ∷ LocalsBut H E j ss ∷ Γ) g (Locals H E ss ∷ Γ) g
+    lifts-out t j τ n = step (λ s. learn t (λ _. use1 W (raw (cell 𝓤 H (τ, block 𝓤 H E j) (slot j ss)) ⊛ raw (hold-but 𝓤 H E j ss)) (apart 𝓤 H A W E j ss τ n) $ split t $
+        move t (1 ∷ []) $ use1 W (LocalsBut H E j ss) (guardI 𝓤 (But E j ss) (hold-but 𝓤 H E j ss) but) $ move t (1 ∷ 0 ∷ []) $ s))
+
+    pub puts-back : K → (j : ℕ) (τ : Ty) {g : Goal 𝓤 H} → Typed 𝓤 H E j τ → Step K W (Locals H E ss ∷ Γ) g (LocalsBut H E j ss ∷ raw (cell 𝓤 H (τ, block 𝓤 H E j) (slot j ss)) ∷ Γ) g
+    puts-back t j τ n = step (λ s. learn t (λ _. use2 W (Locals H E ss) (via 𝓤 (hold 𝓤 H E ss) (together 𝓤 H A W E j ss τ n) (guardI 𝓤 (Of E ss) (hold 𝓤 H E ss) of)) $ s))
 
     pub trims : K → (n : ℕ) {g : Goal 𝓤 H} → Step K W (Locals H E (keeps n ss) ∷ Γ) g (Locals H E ss ∷ Γ) g
     trims t n = step (λ s. learn t (λ _. use1 W (Locals H E (keeps n ss)) (via 𝓤 (hold 𝓤 H E (keeps n ss)) (trimmed 𝓤 H A W E n ss) (guardI 𝓤 (Of E (keeps n ss)) (hold 𝓤 H E (keeps n ss)) of)) $ s))

@@ -69,8 +69,9 @@ pub struct Counts {
 }
 
 impl Counts {
-    /// One call under each profile on both sides. The full box's answer, where they
-    /// agree; the box goes on as that leaves it.
+    /// One call under each profile on both sides, the full box's with the box record by
+    /// value and lent. The full box's answer, where they agree; the box goes on as that
+    /// leaves it.
     pub fn call(
         &mut self,
         sides: &mut Sides,

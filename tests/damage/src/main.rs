@@ -3,10 +3,11 @@
 //!
 //!     damage CALLS
 //!
-//! Each record is called under both profiles, the full box and level one. First what
-//! has a plan: each damage, each pair of them, each wrong size, each mark and length of a
-//! row, each cut of a record, hand-made boxes for level one. Then random boxes and records
-//! until CALLS calls are made.
+//! Each record is called under both profiles, the full box and level one, and on the
+//! full box through both of its entries, which count as one call. First what has a plan:
+//! each damage, each pair of them, each wrong size, each mark and length of a row, each
+//! cut of a record, hand-made boxes for level one. Then random boxes and records until
+//! CALLS calls are made.
 
 #![forbid(unsafe_code)]
 

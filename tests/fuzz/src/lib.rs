@@ -1,9 +1,9 @@
 //! One input of the fuzzer: a box, alterations of it, and records. The proved
 //! box and `second` must agree after each call, in the number too, and never
-//! answer 5, which is retired. Each call is made under both profiles, the full box
-//! and level one, and goes on with one of them. What a cut record misses is tried
-//! out; where a chain leads, which handle is free, what a release gets, and what level
-//! one refuses, is told from the tables.
+//! answer 5, which is retired. Each call is made under both profiles, the full box,
+//! with the box record by value and lent, and level one, and goes on with one of them.
+//! What a cut record misses is tried out; where a chain leads, which handle is free, what
+//! a release gets, and what level one refuses, is told from the tables.
 
 #![deny(unsafe_op_in_unsafe_fn)]
 

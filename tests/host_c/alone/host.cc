@@ -1,4 +1,4 @@
-/* A host in C++: one program created, and one tank decided over its box. */
+/* A host in C++: one program created, made to run on a box record that is lent, and one tank decided over its box. */
 #include <cstdio>
 
 #include "caif.h"
@@ -39,6 +39,9 @@ int main()
     check(written.code == CAIF_ACCEPTED && written.length == 11, "the record of a create");
     caif_reply reply = caif_call(caif_fresh(), LENT, bytes, written.length);
     check(reply.code == CAIF_ACCEPTED && reply.number == 3 && reply.held.identities[3] == 5, "a create");
+    const uint8_t hand_over[] = {0x03, CAIF_HAND_OVER, 3};
+    caif_answer handed_over = caif_call_lent(&reply.held, LENT, hand_over, sizeof hand_over);
+    check(handed_over.code == CAIF_ACCEPTED && handed_over.used == 3 && reply.held.running == 3, "a hand over, lent");
     caif_tank tank = caif_tank();
     tank.reading = 1851;
     tank.setpoint = 1800;

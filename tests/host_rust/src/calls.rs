@@ -1,7 +1,7 @@
 //! The example paper, then every other kind of call, then hand overs of each
-//! sort, then chains, then releases.
+//! sort, then chains, then releases, each with the box record by value and lent.
 
-use interface::{fresh, write, BoxRecord, EscrowRow, Fields, Host, LogRow, Tally, Used};
+use interface::{fresh, write, Answer, BoxRecord, EscrowRow, Fields, Host, LogRow, Tally, Used};
 
 /// The handle of length 1 and draw 7.
 const HANDLE: u64 = 281_474_976_710_663;
@@ -613,8 +613,13 @@ fn written(tally: &mut Tally, n: usize, step: &Step) {
 fn called(tally: &mut Tally, n: usize, step: &Step, host: &mut Host) {
     let mut wanted = host.clone();
     (step.alters)(&mut wanted);
-    let reply = host.call(step.record);
     let (code, number, shown) = step.answer;
+    let answer = Answer { code, number, used: step.record.len(), shown };
+    let (mut copy, right) = (host.clone(), Ok(answer));
+    let lent = copy.call_lent_guarded(step.record);
+    tally.check(lent == right, || format!("step {n}, lent: {lent:?}"));
+    tally.check(copy == wanted, || format!("step {n}, lent: the box, a buffer, or beside one"));
+    let reply = host.call(step.record);
     tally.check(reply.code == code, || format!("step {n}: code {}", reply.code));
     tally.check(reply.number == number, || format!("step {n}: number {}", reply.number));
     tally.check(reply.used == step.record.len(), || format!("step {n}: used {}", reply.used));

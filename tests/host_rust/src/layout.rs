@@ -4,7 +4,8 @@ use std::mem::{align_of, size_of};
 use std::ptr::addr_of;
 
 use interface::{
-    fresh, BoxRecord, EscrowRow, Fields, LogRow, Reply, Tally, Tank, TankAnswer, Used, Written,
+    fresh, Answer, BoxRecord, EscrowRow, Fields, LogRow, Reply, Tally, Tank, TankAnswer, Used,
+    Written,
 };
 
 pub fn check(tally: &mut Tally) {
@@ -27,6 +28,7 @@ pub fn check(tally: &mut Tally) {
     layout!(LogRow::default(), LogRow: 24, 8; identity: 0, tag: 8, first: 16, length: 18);
     layout!(EscrowRow::default(), EscrowRow: 32, 8; source: 0, recipient: 8, handle: 16, first: 24, length: 26, mark: 28);
     layout!(Reply { held, code: 0, number: 0, used: 0, shown: 0 }, Reply: 176, 8; held: 0, code: 144, number: 152, used: 160, shown: 168);
+    layout!(Answer { code: 0, number: 0, used: 0, shown: 0 }, Answer: 32, 8; code: 0, number: 8, used: 16, shown: 24);
     layout!(Fields::default(), Fields: 32, 8; place: 0, identity: 8, offset: 16, length: 18, number: 24);
     layout!(Written { code: 0, length: 0 }, Written: 16, 8; code: 0, length: 8);
     layout!(Tank::default(), Tank: 32, 8; reading: 0, setpoint: 4, probe: 8, tag: 16, given: 24, correction: 25);

@@ -6,6 +6,7 @@ mod calls;
 mod desk;
 mod draws;
 mod layout;
+mod lent;
 mod level_one;
 mod refusals;
 
@@ -19,6 +20,7 @@ fn main() -> ExitCode {
     calls::check(&mut tally);
     draws::check(&mut tally);
     refusals::check(&mut tally);
+    lent::check(&mut tally);
     level_one::check(&mut tally);
     desk::check(&mut tally);
     tally.summary()

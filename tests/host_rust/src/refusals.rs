@@ -1,7 +1,8 @@
-//! Refusals through the header. Each alters nothing. A cut record gets how many
-//! bytes finish the field being read, every other refusal number 0.
+//! Refusals through the header, with the box record by value and lent. Each alters
+//! nothing. A cut record gets how many bytes finish the field being read, every other
+//! refusal number 0.
 
-use interface::{write, Buffer, Fields, Host, Tally, Written};
+use interface::{write, Answer, Buffer, Fields, Host, Tally, Written};
 
 use crate::calls::after_example;
 
@@ -38,6 +39,9 @@ fn answered(
     (code, number, used): (u8, u64, usize),
 ) {
     let before = host.clone();
+    let lent = host.call_lent_guarded(record);
+    let right = lent == Ok(Answer { code, number, used, shown: 0 }) && *host == before;
+    tally.check(right, || format!("{what}, lent: {lent:?}, or something was altered"));
     let reply = host.call(record);
     tally.check(reply.code == code, || format!("{what}: code {}", reply.code));
     tally.check(reply.number == number, || format!("{what}: number {}", reply.number));

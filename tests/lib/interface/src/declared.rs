@@ -1,5 +1,7 @@
 //! What `include/caif.h` declares, in its order and under its names.
 
+use std::mem::{size_of, size_of_val};
+
 use second::Profile;
 
 /// `struct caif_used`.
@@ -54,6 +56,23 @@ pub struct Reply {
     pub shown: u16,
 }
 
+/// `struct caif_answer`.
+#[repr(C)]
+#[derive(Clone, Copy, Debug, PartialEq, Eq)]
+pub struct Answer {
+    pub code: u8,
+    pub number: u64,
+    pub used: usize,
+    pub shown: u16,
+}
+
+impl From<Reply> for Answer {
+    fn from(reply: Reply) -> Self {
+        let Reply { held: _, code, number, used, shown } = reply;
+        Answer { code, number, used, shown }
+    }
+}
+
 /// `struct caif_fields`.
 #[repr(C)]
 #[derive(Clone, Copy, Debug, Default, PartialEq, Eq)]
@@ -95,6 +114,26 @@ extern "C" {
         bytes: *const u8,
         bytes_size: usize,
     ) -> Reply;
+
+    fn caif_call_lent(
+        held: *mut BoxRecord,
+        log: *mut LogRow,
+        log_rows: usize,
+        escrow: *mut EscrowRow,
+        escrow_rows: usize,
+        heaps: *mut u8,
+        heaps_size: usize,
+        shared: *mut u8,
+        shared_size: usize,
+        log_values: *mut u8,
+        log_values_size: usize,
+        escrow_values: *mut u8,
+        escrow_values_size: usize,
+        output: *mut u8,
+        output_size: usize,
+        bytes: *const u8,
+        bytes_size: usize,
+    ) -> Answer;
 
     fn caif_call_level_one(
         held: BoxRecord,
@@ -173,6 +212,46 @@ pub(crate) fn call(profile: Profile, held: BoxRecord, lent: Lent, bytes: &[u8]) 
             bytes.len(),
         )
     }
+}
+
+/// One call on a box record that is lent too.
+pub(crate) fn call_lent(held: &mut BoxRecord, lent: Lent, bytes: &[u8]) -> Answer {
+    let Lent { log, escrow, heaps, shared, log_values, escrow_values, output } = lent;
+    // SAFETY: as in `call`, and so is the box record.
+    unsafe {
+        caif_call_lent(
+            held,
+            log.as_mut_ptr(),
+            log.len(),
+            escrow.as_mut_ptr(),
+            escrow.len(),
+            heaps.as_mut_ptr(),
+            heaps.len(),
+            shared.as_mut_ptr(),
+            shared.len(),
+            log_values.as_mut_ptr(),
+            log_values.len(),
+            escrow_values.as_mut_ptr(),
+            escrow_values.len(),
+            output.as_mut_ptr(),
+            output.len(),
+            bytes.as_ptr(),
+            bytes.len(),
+        )
+    }
+}
+
+/// A box record has so many words.
+pub(crate) const RECORD_WORDS: usize = size_of::<BoxRecord>() / size_of::<u64>();
+
+/// The box record that stands in these words, whose padding they show. It is to be
+/// written field by field or by the archive: a copy of a whole record leaves padding
+/// that may not be read.
+pub(crate) fn record_in(words: &mut [u64]) -> &mut BoxRecord {
+    assert_eq!(size_of_val(words), size_of::<BoxRecord>());
+    // SAFETY: they are as long as a box record and aligned as one, and whatever they
+    // hold is one.
+    unsafe { &mut *words.as_mut_ptr().cast() }
 }
 
 /// The record of a call, at the front of `out`.

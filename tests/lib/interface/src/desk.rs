@@ -125,12 +125,14 @@ fn shift(tanks: &[Tank], answers: &mut [TankAnswer], held: BoxRecord, lent: Lent
 impl Host {
     /// One tank through the C interface.
     pub fn desk(&mut self, tank: Tank) -> TankAnswer {
-        desk(tank, self.held, self.lend())
+        let (held, lent) = self.lend();
+        desk(tank, *held, lent)
     }
 
     /// A list of tanks, with the answers lent for it.
     pub fn shift(&mut self, tanks: &[Tank], answers: &mut [TankAnswer]) -> u8 {
-        shift(tanks, answers, self.held, self.lend())
+        let (held, lent) = self.lend();
+        shift(tanks, answers, *held, lent)
     }
 }
 

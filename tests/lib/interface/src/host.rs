@@ -2,7 +2,10 @@
 
 use second::{Answer, Profile, OUTPUT_SIZE};
 
-use crate::declared::{call, fresh, BoxRecord, EscrowRow, Lent, LogRow, Reply, Used};
+use crate::declared::{
+    self, call, call_lent, fresh, record_in, BoxRecord, EscrowRow, Lent, LogRow, Reply, Used,
+    RECORD_WORDS,
+};
 
 /// So many elements before and behind a lent buffer must stand as they were.
 const GUARD: usize = 4;
@@ -117,14 +120,42 @@ impl Host {
 
     /// As [`call`](Self::call), through the profile's entry.
     pub fn call_under(&mut self, profile: Profile, record: &[u8]) -> Reply {
-        let reply = call(profile, self.held, self.lend(), record);
+        let (held, lent) = self.lend();
+        let reply = call(profile, *held, lent, record);
         self.held = reply.held;
         reply
     }
 
-    /// All that it lends for a call.
-    pub(crate) fn lend(&mut self) -> Lent<'_> {
-        Lent {
+    /// As [`call`](Self::call), on the box record itself, which is lent.
+    pub fn call_lent(&mut self, record: &[u8]) -> declared::Answer {
+        let (held, lent) = self.lend();
+        call_lent(held, lent, record)
+    }
+
+    /// As [`call_lent`](Self::call_lent), on a copy of the box record, which is kept. It
+    /// is lent from between guards and with bytes in its padding: an error where the
+    /// guards do not stand, or a refusal altered any byte of it.
+    pub fn call_lent_guarded(&mut self, record: &[u8]) -> Result<declared::Answer, String> {
+        let mut words = Guarded::new(WORD, [WORD; RECORD_WORDS].into_iter());
+        let BoxRecord { taken, running, identities, log, escrow } = self.held;
+        let held = record_in(words.lend());
+        (held.taken, held.running, held.identities) = (taken, running, identities);
+        (held.log, held.escrow) = (log, escrow);
+        let before = words.clone();
+        let answer = call_lent(record_in(words.lend()), self.lend().1, record);
+        self.held = *record_in(words.lend());
+        if !words.guards_stand() {
+            return Err("memory beside the lent box record was altered".into());
+        }
+        if answer.code != 0 && words != before {
+            return Err(format!("refusal {} altered the lent box record", answer.code));
+        }
+        Ok(answer)
+    }
+
+    /// All that it lends for a call, the box record apart.
+    pub(crate) fn lend(&mut self) -> (&mut BoxRecord, Lent<'_>) {
+        let lent = Lent {
             log: self.log.lend(),
             escrow: self.escrow.lend(),
             heaps: self.heaps.lend(),
@@ -132,7 +163,8 @@ impl Host {
             log_values: self.log_values.lend(),
             escrow_values: self.escrow_values.lend(),
             output: self.output.lend(),
-        }
+        };
+        (&mut self.held, lent)
     }
 
     /// Lends a buffer of another size from now on.
@@ -238,20 +270,23 @@ impl Sides {
         Sides { host: Host::of(&second, &output), second, output }
     }
 
-    /// One call on both sides: the answer, or what was not the same. A refusal
+    /// One call on both sides, and on a copy of the box through the entry to which the
+    /// box record is lent: the answer, or what was not the same. A refusal
     /// is held to have altered nothing, 1 to have a number other than 0 and the
     /// others to have 0, and none to be 5, which is retired.
     pub fn call(&mut self, record: &[u8]) -> Result<Answer, String> {
         self.call_under(Profile::Full, record)
     }
 
-    /// As [`call`](Self::call), under a profile.
+    /// As [`call`](Self::call), under a profile. Level one has no entry to which the
+    /// box record is lent.
     pub fn call_under(&mut self, profile: Profile, record: &[u8]) -> Result<Answer, String> {
         let wanted = match profile {
             Profile::Full => self.second.call(&mut self.output, record),
             Profile::LevelOne => self.second.call_level_one(&mut self.output, record),
         };
         let before = (wanted.code != 0).then(|| self.host.clone());
+        let lent = (profile == Profile::Full).then(|| self.host.clone());
         let reply = self.host.call_under(profile, record);
         let Reply { code, number, used, shown, .. } = reply;
         let answer = Answer { code, number, used, shown: usize::from(shown) };
@@ -270,7 +305,24 @@ impl Sides {
         if code == 5 {
             return Err("refusal 5, which is retired".into());
         }
+        if let Some(lent) = lent {
+            self.answers_lent(lent, record, reply).map_err(|what| format!("lent: {what}"))?;
+        }
         Ok(answer)
+    }
+
+    /// The entry to which the box record is lent answers this host as the entry by value
+    /// answered, and leaves the record and the buffers as they are now.
+    fn answers_lent(&self, mut host: Host, record: &[u8], reply: Reply) -> Result<(), String> {
+        let answer = host.call_lent_guarded(record)?;
+        let wanted = declared::Answer::from(reply);
+        if answer != wanted {
+            return Err(format!("the answer is {answer:?}, and by value {wanted:?}"));
+        }
+        if let Some(part) = host.differs(&self.second, &self.output) {
+            return Err(format!("{part}: not as second has it, after code {}", answer.code));
+        }
+        Ok(())
     }
 
     /// One call on this box under each profile, each on both sides: the answers

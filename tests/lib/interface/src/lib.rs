@@ -1,5 +1,6 @@
 //! The C interface for Rust hosts: what `include/caif.h` declares, a host that
-//! calls through it, and that host compared with one of `second`; the full box or
+//! calls through it, and that host compared with one of `second`; the full box,
+//! through the entry by value and the one to which the box record is lent, or
 //! a level-one paper, by the profile. With the feature `desk` the tank desk too.
 
 mod declared;
@@ -8,7 +9,9 @@ mod desk;
 mod host;
 mod tally;
 
-pub use declared::{fresh, write, BoxRecord, EscrowRow, Fields, LogRow, Reply, Used, Written};
+pub use declared::{
+    fresh, write, Answer, BoxRecord, EscrowRow, Fields, LogRow, Reply, Used, Written,
+};
 #[cfg(feature = "desk")]
 pub use desk::{tank_of, Tank, TankAnswer};
 pub use host::{Both, Buffer, Host, Sides};
