@@ -1,4 +1,7 @@
 // Runs a script of records from standard input on a fresh box, and prints its answer sheet.
+
+#![tactic(auto)]
+
 ghost use Rattle.ideal.specs.Box.{call_on};
 ghost use Rattle.printing.specs.Printing.{Ended};
 

@@ -1,5 +1,8 @@
 // Lent bytes: whether they are 0, or the same; copied, put, shown, cleared and taken out; whether a range goes beyond a limit;
 // numbers in them, lowest byte first, and values after their counts.
+
+#![tactic(auto)]
+
 ghost use Rattle.std.specs.Prelude.{◌≡◌, ◌+◌, ◌-◌, ◌≤◌, ◌<◌, ◌^◌, ltb, length, replicate, take, drop, ◌++◌};
 ghost use Rattle.std.proofs.lemmas.List.Edits.{sets};
 ghost use Rattle.lists.specs.Lists.{same_bytes, all_zero};
@@ -8,7 +11,7 @@ ghost use Rattle.record.specs.Read.{from_little};
 ghost use Rattle.buffers.specs.Counted.{counted_at, CountedWithin};
 
 // Where a value starts and ends that stands after its count; or the bytes end before it does.
-#[derive(Drop)]
+#[derive(Clone, Copy)]
 pub enum Counted {
     At(usize, usize),
     Cut,

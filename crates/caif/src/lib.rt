@@ -1,4 +1,7 @@
 // The box for hosts in C: what include/caif.h declares.
+
+#![tactic(auto)]
+
 mod entry;
 mod lent;
 mod lent_record;
@@ -20,7 +23,7 @@ pub use writing::caif_write;
 
 // An answer, with the box record as the call leaves it.
 #[repr(C)]
-#[derive(Drop)]
+#[derive(Clone, Copy)]
 pub struct LentReply {
     pub held: BoxRecord,
     pub answer: Answer,
@@ -28,7 +31,7 @@ pub struct LentReply {
 
 // What the writer answers: code is 0 where length says how long the record is, and else a refusal.
 #[repr(C)]
-#[derive(Drop)]
+#[derive(Clone, Copy)]
 pub struct WrittenReply {
     pub code: u8,
     pub length: usize,

@@ -1,4 +1,7 @@
 // The box's entry: a record's bytes are read and carried out on the box that a host hands in.
+
+#![tactic(auto)]
+
 mod dispatch;
 
 ghost use Rattle.std.specs.Prelude.{◌≡◌, length};

@@ -1,4 +1,7 @@
 // A chain of custody: from link to link, logged or escrowed, to the value that ends it.
+
+#![tactic(auto)]
+
 mod columns;
 
 ghost use Rattle.std.specs.Prelude.{◌≡◌, ℕ, ◌-◌, ◌≤◌, not, List, eqb, length, drop};
@@ -22,7 +25,7 @@ use record::{First, Handle};
 use state::{Answer, EscrowTable, LogTable, accepted, refused};
 
 // What the head of a value says: the chain ends, or which link is next.
-#[derive(Drop)]
+#[derive(Clone, Copy)]
 enum Head {
     Malformed,
     End,
@@ -31,7 +34,7 @@ enum Head {
 }
 
 // Where a link's value starts and ends, in the chain bytes or in the escrow's value bytes; or the link's refusal.
-#[derive(Drop)]
+#[derive(Clone, Copy)]
 enum Value {
     At(usize, usize),
     Refused(u8),

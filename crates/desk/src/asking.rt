@@ -17,7 +17,7 @@ use state::{EscrowTable, LogTable};
 use writer::write_call;
 
 // As long as the record of a check of two bytes.
-#[derive(Drop)]
+#[derive(Clone, Copy)]
 pub struct CheckRecord {
     pub bytes: [u8; 22],
 }

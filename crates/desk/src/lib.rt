@@ -1,4 +1,7 @@
 // The tank desk, over the box (document 02, P6): what include/caif.h declares of it.
+
+#![tactic(auto)]
+
 mod asking;
 mod correcting;
 mod deciding;
@@ -20,7 +23,7 @@ use tank_rows::{copy_tanks, store_answers};
 // A tank, as a host lends it. Temperatures are in hundredths of a degree Celsius. Where given is 0 there is no correction,
 // and probe, tag, low and high are not looked at; low and high are the correction's two bytes.
 #[repr(C)]
-#[derive(Drop)]
+#[derive(Clone, Copy)]
 pub struct Tank {
     pub reading: i32,
     pub setpoint: i32,
@@ -34,7 +37,7 @@ pub struct Tank {
 // A tank's answer. code is 0, 24, 25 or 26; action is 1 hold, 2 cool, 3 warm, and 0 with a refusal; refusal is the box's own
 // number with 25, and else 0.
 #[repr(C)]
-#[derive(Drop)]
+#[derive(Clone, Copy)]
 pub struct TankAnswer {
     pub code: u8,
     pub action: u8,
@@ -42,7 +45,7 @@ pub struct TankAnswer {
 }
 
 // What a given correction claims: this probe logged these two bytes and got this tag.
-#[derive(Drop)]
+#[derive(Clone, Copy)]
 pub struct Claim {
     pub probe: u64,
     pub tag: Tag,
@@ -50,20 +53,20 @@ pub struct Claim {
     pub high: u8,
 }
 
-#[derive(Drop)]
+#[derive(Clone, Copy)]
 pub enum Correction {
     NotGiven,
     Given(Claim),
 }
 
 // What the box answers to a check.
-#[derive(Drop)]
+#[derive(Clone, Copy)]
 pub struct Checked {
     pub code: u8,
     pub number: u64,
 }
 
-#[derive(Drop)]
+#[derive(Clone, Copy)]
 pub enum Decision {
     Hold,
     Cool,
@@ -77,12 +80,12 @@ pub enum Decision {
 }
 
 // A list by value. The rows behind its tanks are blank.
-#[derive(Drop)]
+#[derive(Clone, Copy)]
 pub struct Tanks {
     pub rows: [Tank; 8],
 }
 
-#[derive(Drop)]
+#[derive(Clone, Copy)]
 pub struct Answers {
     pub rows: [TankAnswer; 8],
 }

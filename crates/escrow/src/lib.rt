@@ -1,4 +1,7 @@
 // Protect: a value stored for a recipient under a free handle.
+
+#![tactic(auto)]
+
 ghost use Rattle.std.specs.Prelude.{◌≡◌, ◌≤◌, length};
 ghost use Rattle.ideal.specs.Tables.{escrow_table};
 ghost use Rattle.state.specs.Counts.{Room};

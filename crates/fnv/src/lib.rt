@@ -1,11 +1,14 @@
 // FNV-1a of 64 bits, and the tag of an identity and a value.
+
+#![tactic(auto)]
+
 ghost use Rattle.std.specs.Prelude.{◌≡◌, ◌*◌, ◌%◌, ◌^◌, ◌<◌, ◌≤◌, length, drop};
 ghost use Rattle.fnv.specs.Fnv.{mixed, fnv_from, fnv1a, little, tag_of};
 
 use std::num::wrapping_add_u64;
 
 #[repr(C)]
-#[derive(Drop)]
+#[derive(Clone, Copy)]
 pub struct Tag(pub u64);
 
 // The prime is 2^40 + 2^8 + 2^7 + 2^5 + 2^4 + 2 + 1. A shift drops what passes bit 63.
@@ -78,11 +81,11 @@ pub fn tag_of(identity: u64, value: &[u8]) -> Tag
 }
 
 // Two hashes.
-#[derive(Drop)]
+#[derive(Clone, Copy)]
 struct Two(u64, u64);
 
 // Four hashes, tags or identities, of as many slices.
-#[derive(Drop)]
+#[derive(Clone, Copy)]
 pub struct Four(pub u64, pub u64, pub u64, pub u64);
 
 // The lesser of the two.

@@ -1,4 +1,7 @@
 // The first free handle from a draw on.
+
+#![tactic(auto)]
+
 ghost use Rattle.std.specs.Prelude.{◌≡◌, List, ℕ, ◌^◌, ◌≤◌, ◌<◌, take};
 ghost use Rattle.ideal.specs.Step.{handle_of, next, free_handle};
 ghost use Rattle.ideal.specs.Tables.{escrow_table, entries_of};

@@ -1,4 +1,7 @@
 // The running place's heap, written and read.
+
+#![tactic(auto)]
+
 ghost use Rattle.std.specs.Prelude.{◌≡◌, ◌+◌, length};
 ghost use Rattle.ideal.specs.Tables.{heap_start};
 ghost use Rattle.heap.specs.Narrow.{heap_refusal, heap_write_answer, heap_write_heaps, heap_read_answer, heap_read_output};

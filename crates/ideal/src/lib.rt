@@ -1,4 +1,7 @@
 // The box record and the rows that a host holds, and the profiles of the box.
+
+#![tactic(auto)]
+
 use fnv::Tag;
 use record::Handle;
 
@@ -7,7 +10,7 @@ pub const HEAP: usize = 256;
 
 // The used-counts of a table.
 #[repr(C)]
-#[derive(Drop)]
+#[derive(Clone, Copy)]
 pub struct Used {
     pub rows: u16,
     pub bytes: u16,
@@ -15,7 +18,7 @@ pub struct Used {
 
 // Bit p of taken stands when place p is taken; running is 0 to 15, or 16 when none runs.
 #[repr(C)]
-#[derive(Drop)]
+#[derive(Clone, Copy)]
 pub struct BoxRecord {
     pub taken: u16,
     pub running: u8,
@@ -25,7 +28,7 @@ pub struct BoxRecord {
 }
 
 #[repr(C)]
-#[derive(Drop)]
+#[derive(Clone, Copy)]
 pub struct LogRow {
     pub identity: u64,
     pub tag: Tag,
@@ -35,7 +38,7 @@ pub struct LogRow {
 
 // The mark is 0, and 1 once the value is released (document 02, P8): a byte, since what a host lends may hold anything.
 #[repr(C)]
-#[derive(Drop)]
+#[derive(Clone, Copy)]
 pub struct EscrowRow {
     pub source: u64,
     pub recipient: u64,
@@ -46,7 +49,7 @@ pub struct EscrowRow {
 }
 
 // Which box: the full one, or the one for level_one papers (document 02, P5).
-#[derive(Drop)]
+#[derive(Clone, Copy)]
 pub enum Profile {
     Full,
     LevelOne,

@@ -1,4 +1,7 @@
 // Runs a script of records from standard input on a fresh level_one box (document 02, P5), and prints its answer sheet.
+
+#![tactic(auto)]
+
 ghost use Rattle.ideal.specs.LevelOne.{level_one_on};
 ghost use Rattle.printing.specs.Printing.{Ended};
 

@@ -1,5 +1,8 @@
 // Level one's own refusals (document 02, P5). Each comes before any change to the box, so that a call is asked about here
 // first, and then carried out as in the full box.
+
+#![tactic(auto)]
+
 ghost use Rattle.std.specs.Prelude.{◌≡◌, ◌+◌, ◌≤◌, length, take};
 ghost use Rattle.ideal.specs.State.{any};
 ghost use Rattle.ideal.specs.Tables.{log_table, entry_of, entries_of};

@@ -1,4 +1,7 @@
 // The list of every accepted short script (document 02, P10), for hosts in C: what include/caif.h declares.
+
+#![tactic(auto)]
+
 mod clearing;
 mod extending;
 mod next;
@@ -15,28 +18,28 @@ use parting::part_records;
 use placing::{place, refused};
 
 // Where a record starts and ends in the buffer of records.
-#[derive(Drop)]
+#[derive(Clone, Copy)]
 pub struct Span {
     pub start: usize,
     pub end: usize,
 }
 
 // The records in a buffer: how many, and where each stands.
-#[derive(Drop)]
+#[derive(Clone, Copy)]
 pub struct Records {
     pub count: usize,
     pub spans: [Span; 6],
 }
 
 // What a buffer holds: at most 6 records, each of them whole; or it does not.
-#[derive(Drop)]
+#[derive(Clone, Copy)]
 pub struct Parted {
     pub fits: bool,
     pub records: Records,
 }
 
 // How far the list is written, and how many sequences it has.
-#[derive(Drop)]
+#[derive(Clone, Copy)]
 pub struct Found {
     pub at: usize,
     pub count: usize,
@@ -44,7 +47,7 @@ pub struct Found {
 
 // What the entry answers: code is 0 where number says how many sequences there are, and else a refusal.
 #[repr(C)]
-#[derive(Drop)]
+#[derive(Clone, Copy)]
 pub struct Listed {
     pub code: u8,
     pub number: u64,

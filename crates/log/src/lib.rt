@@ -1,4 +1,7 @@
 // Attest and check.
+
+#![tactic(auto)]
+
 ghost use Rattle.std.specs.Prelude.{◌≡◌, ◌≤◌, length};
 ghost use Rattle.ideal.specs.Tables.{log_table};
 ghost use Rattle.state.specs.Counts.{Room};

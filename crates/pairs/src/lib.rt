@@ -1,4 +1,7 @@
 // The search for a pair in the log.
+
+#![tactic(auto)]
+
 ghost use Rattle.std.specs.Prelude.{◌≡◌, ◌+◌, ◌≤◌, length, take};
 ghost use Rattle.ideal.specs.Step.{is_logged, logged};
 ghost use Rattle.ideal.specs.Tables.{log_table, entry_of, entries_of};

@@ -1,4 +1,7 @@
 // Runs a script of records from standard input on a fresh box of a profile, and prints its answer sheet.
+
+#![tactic(auto)]
+
 mod output;
 
 ghost use Rattle.std.specs.Prelude.{◌≡◌, ◌≤◌, length};
@@ -12,14 +15,14 @@ use output::Printed;
 pub use output::{Failure, Progress};
 
 // How many bytes of a script were read, or that standard input cannot be read.
-#[derive(Drop)]
+#[derive(Clone, Copy)]
 enum Input {
     Bytes(usize),
     Unreadable,
 }
 
 // How a program ends: the sheet is printed whole, standard input cannot be read, or standard output cannot be written.
-#[derive(Drop)]
+#[derive(Clone, Copy)]
 pub enum Ending {
     Whole(Progress),
     Unread,

@@ -8,18 +8,18 @@ use ideal::Profile;
 use libc::STDOUT_FILENO;
 
 // How many bytes of a sheet are printed. The field is private: only `nothing` and `print` make one.
-#[derive(Drop)]
+#[derive(Clone, Copy)]
 pub struct Progress {
     printed: usize,
 }
 
 // That the part from this place on was handed to `write_all`, which did not write all of it. Only `print` makes one.
-#[derive(Drop)]
+#[derive(Clone, Copy)]
 pub struct Failure {
     from: usize,
 }
 
-#[derive(Drop)]
+#[derive(Clone, Copy)]
 pub enum Printed {
     UpTo(Progress),
     Failed(Failure),

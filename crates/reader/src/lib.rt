@@ -1,4 +1,7 @@
 // The reader of call records.
+
+#![tactic(auto)]
+
 ghost use Rattle.std.specs.Prelude.{◌≡◌, ℕ, ◌≤◌, ◌<◌, List, length};
 ghost use Rattle.record.specs.Call.{link_by};
 ghost use Rattle.record.specs.Layout.{kind_of};
@@ -11,14 +14,14 @@ use fnv::Tag;
 use record::{Call, Draw, Fields, First, Handle, LegalMap, Part, Reading, has, legal_map};
 
 // A field's number, 0 where its bit is down, and the position after it; or how many bytes it misses.
-#[derive(Drop)]
+#[derive(Clone, Copy)]
 enum Taken {
     Number(u64, usize),
     Cut { missing: usize },
 }
 
 // The numbers of three fields, and the position after them; or how many bytes the one that is cut misses.
-#[derive(Drop)]
+#[derive(Clone, Copy)]
 enum Three {
     Numbers(u64, u64, u64, usize),
     Cut { missing: usize },

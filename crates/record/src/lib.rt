@@ -1,26 +1,29 @@
 // Call records: a map byte, then the fields whose bit stands, lowest byte first.
+
+#![tactic(auto)]
+
 mod kinds;
 
 use fnv::Tag;
 pub use kinds::{has, legal_map};
 
 #[repr(C)]
-#[derive(Drop)]
+#[derive(Clone, Copy)]
 pub struct Handle(pub u64);
 
 #[repr(C)]
-#[derive(Drop)]
+#[derive(Clone, Copy)]
 pub struct Draw(pub u64);
 
 // A bytes field: where it starts in the record, and how many bytes it has.
-#[derive(Drop)]
+#[derive(Clone, Copy)]
 pub struct Part {
     pub start: usize,
     pub count: u16,
 }
 
 // The first link of a chain, as its way says: by its tag (2), by its handle (3), or by neither, where no link has such a way.
-#[derive(Drop)]
+#[derive(Clone, Copy)]
 pub enum First {
     Logged(Tag),
     Escrowed(Handle),
@@ -28,7 +31,7 @@ pub enum First {
 }
 
 // A call: a kind and the fields of its map, no others.
-#[derive(Drop)]
+#[derive(Clone, Copy)]
 pub enum Call {
     Create {
         place: u8,
@@ -91,7 +94,7 @@ pub enum Call {
 }
 
 // What the reader finds.
-#[derive(Drop)]
+#[derive(Clone, Copy)]
 pub enum Reading {
     // A call, and how many bytes its record has.
     Whole { call: Call, used: usize },
@@ -105,7 +108,7 @@ pub enum Reading {
 
 // The numbers in a record's fields. The reader gives 0 in a field that the map lacks; the writer ignores it.
 #[repr(C)]
-#[derive(Drop)]
+#[derive(Clone, Copy)]
 pub struct Fields {
     pub place: u8,
     pub identity: u64,
@@ -115,7 +118,7 @@ pub struct Fields {
 }
 
 // A kind's one legal map.
-#[derive(Drop)]
+#[derive(Clone, Copy)]
 pub enum LegalMap {
     Map(u8),
     NoSuchKind,

@@ -1,4 +1,7 @@
 // Release: a value given up by its recipient (document 02, P8).
+
+#![tactic(auto)]
+
 ghost use Rattle.std.specs.Prelude.{◌≡◌, ◌≤◌, length};
 ghost use Rattle.ideal.specs.Tables.{escrow_table};
 ghost use Rattle.state.specs.Edits.{stored};

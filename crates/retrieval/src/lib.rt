@@ -1,4 +1,7 @@
 // Retrieve: the value under a handle copied to its recipient.
+
+#![tactic(auto)]
+
 ghost use Rattle.std.specs.Prelude.{◌≡◌, List, ℕ, ◌≤◌, length, take};
 ghost use Rattle.ideal.specs.State.{find, position};
 ghost use Rattle.ideal.specs.Step.{is_escrowed};
@@ -14,7 +17,7 @@ use record::Handle;
 use state::{Answer, EscrowTable, accepted, refused};
 
 // The search's answer: the index of a row, or that there is none.
-#[derive(Drop)]
+#[derive(Clone, Copy)]
 pub enum Found {
     At(usize),
     Nothing,

@@ -78,7 +78,7 @@ pub fn store_escrow(rows: &mut [EscrowRow], table: EscrowTable)
 }
 
 // The bits of rows, as in the log.
-#[derive(Drop)]
+#[derive(Clone, Copy)]
 struct EscrowBits {
     sources: u64,
     recipients: u64,

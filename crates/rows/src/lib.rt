@@ -1,4 +1,7 @@
 // Rows that a host lends: one read or put, a table's edit made on them, or all of them copied or stored.
+
+#![tactic(auto)]
+
 mod escrow_rows;
 mod log_rows;
 

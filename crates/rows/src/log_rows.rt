@@ -74,7 +74,7 @@ pub fn store_log(rows: &mut [LogRow], table: LogTable)
 }
 
 // The bits of rows, joined field by field: one join need not wait for another.
-#[derive(Drop)]
+#[derive(Clone, Copy)]
 struct LogBits {
     identities: u64,
     tags: u64,

@@ -1,4 +1,7 @@
 // Create and exit: a place is taken and emptied. Report: what the box holds.
+
+#![tactic(auto)]
+
 mod running;
 
 ghost use Rattle.std.specs.Prelude.{◌≡◌, ◌^◌, ◌<◌};

@@ -1,4 +1,7 @@
 // Shared memory, written and read.
+
+#![tactic(auto)]
+
 ghost use Rattle.std.specs.Prelude.{◌≡◌, length};
 ghost use Rattle.shared.specs.Narrow.{shared_write_answer, shared_write_shared, shared_read_answer, shared_read_output};
 

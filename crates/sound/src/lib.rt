@@ -1,4 +1,7 @@
 // The soundness test.
+
+#![tactic(auto)]
+
 ghost use Rattle.std.specs.Prelude.{◌≡◌, List, ℕ, length};
 ghost use Rattle.ideal.specs.declared.BoxRecord.{BoxRecord};
 ghost use Rattle.state.specs.declared.LogTable.{LogTable};

@@ -1,4 +1,7 @@
 // The escrow: its rows and value bytes.
+
+#![tactic(auto)]
+
 ghost use Rattle.std.specs.Prelude.{◌≡◌, true, ◌&&◌, List, [], ℕ, ◌/◌, ◌^◌, ◌≤◌, length, take, drop};
 ghost use Rattle.ideal.specs.State.{every};
 ghost use Rattle.ideal.specs.Tables.{escrow_table, entries_of};

@@ -1,4 +1,7 @@
 // The log: its rows and value bytes.
+
+#![tactic(auto)]
+
 ghost use Rattle.std.specs.Prelude.{◌≡◌, true, ◌&&◌, [], ◌∷◌, ◌≤◌, ◌<◌, ◌^◌, eqb, length, take, drop};
 ghost use Rattle.ideal.specs.State.{every};
 ghost use Rattle.ideal.specs.Tables.{log_table, entries_of};

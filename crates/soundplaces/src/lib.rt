@@ -1,4 +1,7 @@
 // The running place, the map of taken places, and the heaps of empty ones.
+
+#![tactic(auto)]
+
 ghost use Rattle.std.specs.Prelude.{◌≡◌, cond, not, ◌&&◌, ◌||◌, eqb, ltb, length};
 ghost use Rattle.ideal.specs.Tables.{taken_map, chunks};
 ghost use Rattle.record.specs.Layout.{stands};

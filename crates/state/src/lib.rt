@@ -1,4 +1,7 @@
 // What goes in and comes back by value, a fresh box, whether a table has room, and a table after an edit.
+
+#![tactic(auto)]
+
 mod editing;
 mod fresh;
 mod full;
@@ -14,12 +17,12 @@ pub use fresh::{fresh_escrow, fresh_log, fresh_record};
 pub use full::is_full;
 use ideal::{BoxRecord, EscrowRow, LogRow};
 
-#[derive(Drop)]
+#[derive(Clone, Copy)]
 pub struct LogTable {
     pub rows: [LogRow; 64],
 }
 
-#[derive(Drop)]
+#[derive(Clone, Copy)]
 pub struct EscrowTable {
     pub rows: [EscrowRow; 64],
 }
@@ -27,7 +30,7 @@ pub struct EscrowTable {
 // An answer. used is how many bytes of a record were used, 0 where none was read; shown is how many bytes stand at the front
 // of the output buffer.
 #[repr(C)]
-#[derive(Drop)]
+#[derive(Clone, Copy)]
 pub struct Answer {
     pub code: u8,
     pub number: u64,
@@ -37,7 +40,7 @@ pub struct Answer {
 
 // A row that goes into the log at an index, if put says so. What comes back of a table is this, and not the table: a table
 // by value is moved whole.
-#[derive(Drop)]
+#[derive(Clone, Copy)]
 pub struct LogEdit {
     pub put: bool,
     pub at: usize,
@@ -45,7 +48,7 @@ pub struct LogEdit {
 }
 
 // A row that goes into the escrow, and by how much the first bytes of the rows after it fall.
-#[derive(Drop)]
+#[derive(Clone, Copy)]
 pub struct EscrowEdit {
     pub put: bool,
     pub at: usize,
@@ -53,14 +56,14 @@ pub struct EscrowEdit {
     pub fall: u16,
 }
 
-#[derive(Drop)]
+#[derive(Clone, Copy)]
 pub struct Edits {
     pub log: LogEdit,
     pub escrow: EscrowEdit,
 }
 
 // What a call makes of the box record and of the tables, and its answer.
-#[derive(Drop)]
+#[derive(Clone, Copy)]
 pub struct Change {
     pub held: BoxRecord,
     pub edits: Edits,

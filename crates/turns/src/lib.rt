@@ -1,4 +1,7 @@
 // The records of a script, run on a sound box, and their lines.
+
+#![tactic(auto)]
+
 ghost use Rattle.std.specs.Prelude.{◌+◌, ◌*◌, ◌≤◌, ◌≡◌, cond, length};
 ghost use Rattle.ideal.specs.Box.{given, output_after};
 ghost use Rattle.ideal.specs.LevelOne.{box_of};
@@ -19,7 +22,7 @@ const LINE: usize = 2113;
 
 // What a turn gives: the box record, the row that the call puts, how many bytes of the rest are done with, and how many bytes
 // the line has.
-#[derive(Drop)]
+#[derive(Clone, Copy)]
 pub struct NextLine {
     pub held: BoxRecord,
     pub edits: Edits,
@@ -28,7 +31,7 @@ pub struct NextLine {
 }
 
 // What turns give, one after another: the same with whole tables.
-#[derive(Drop)]
+#[derive(Clone, Copy)]
 pub struct Lines {
     pub held: BoxRecord,
     pub log: LogTable,

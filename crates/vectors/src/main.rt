@@ -1,5 +1,8 @@
 // FNV-1a vectors of 64 bits, run on the proved library. `stdout` has their values: five were given from outside, and the
 // others are computed (docs/DECISIONS.md, "FNV's vectors").
+
+#![tactic(auto)]
+
 ghost use Rattle.std.specs.Prelude.{◌≡◌};
 ghost use Rattle.vectors.specs.Lines.{line_of};
 

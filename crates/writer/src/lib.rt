@@ -1,4 +1,7 @@
 // The writer: the record of a call, at the front of a lent buffer.
+
+#![tactic(auto)]
+
 ghost use Rattle.std.specs.Prelude.{◌≡◌, false, ◌+◌, ◌≤◌, ◌<◌, [], ◌∷◌, ◌++◌, length};
 ghost use Rattle.std.proofs.lemmas.List.Edits.{sets};
 ghost use Rattle.fnv.specs.Fnv.{little};
@@ -11,7 +14,7 @@ use buffers::{put, put_number};
 use record::{Fields, LegalMap, has, legal_map};
 
 // What the writer answers.
-#[derive(Drop)]
+#[derive(Clone, Copy)]
 pub enum Written {
     // The record's length.
     Length(usize),
