@@ -8,8 +8,7 @@ use borrow.Author.Tests.{lt-ltb, le-ltb}
 use Rattle.record.specs.Read.{from_little}
 use Rattle.buffers.specs.declared.Counted.TheVariants.{At, Cut}
 use Rattle.buffers.specs.Counted.{counted_at, CountedWithin}
-use Rattle.buffers.proofs.counted_at.Statement.{statement}
-use Rattle.buffers.proofs.counted_at.Tie as tie
+use Rattle.buffers.proofs.counted_at.Goals as goal
 
 module _ (bs : List ℕ) (at : ℕ) where
   -- the count in front
@@ -28,34 +27,14 @@ module _ (bs : List ℕ) (at : ℕ) where
       let q : 2 + n ≤ length (drop at bs) = simp length-drop p in
       rw (← e, le-ltb _ _ q)
 
-sub-if1 : tie.Need-overflow-sub-if1
-sub-if1 c = search rules
-
-returns : tie.Need-returns
+pub returns-then-bytes-at-lt2 : goal.returns-then-bytes-at-lt2
 unfolding CountedWithin
-returns c = (cut _ _ (omega (arith, c.if1.true)), tt)
+returns-then-bytes-at-lt2 c = record { value = cut _ _ (omega (arith, c.if-bytes-at-lt2.true)); counted_within = tt }
 
-add_start : tie.Need-overflow-add-start
-add_start c = search rules
-
-number-at-requires : tie.Need-number-at-requires
-number-at-requires c κs = search rules
-
-sub-if2 : tie.Need-overflow-sub-if2
-sub-if2 c = search rules
-
-returns-2 : tie.Need-returns-2
+pub returns-then-bytes-start : goal.returns-then-bytes-start
 unfolding CountedWithin
-returns-2 c = (cut _ _ (omega (arith, c.if2.true, c.before.number-at.ensures.0)), tt)
+returns-then-bytes-start c = record { value = cut _ _ (omega (arith, c.if-bytes-start.true, c.number_at-count.ensures.value)); counted_within = tt }
 
-add-end : tie.Need-overflow-add-end
-add-end c = search rules
-
-returns-3 : tie.Need-returns-3
+pub returns : goal.returns
 unfolding CountedWithin
-returns-3 c = (whole _ _ c.before.number-at.ensures.0 (omega arith), (omega arith, omega arith))
-
-pub counted-at-spec : {M : Type 1} → statement M
-counted-at-spec =
-    tie.close
-    (tie.spec sub-if1 returns add_start number-at-requires sub-if2 returns-2 add-end returns-3)
+returns c = record { value = whole _ _ c.number_at-count.ensures.value (omega arith); counted_within = (omega arith, omega arith) }

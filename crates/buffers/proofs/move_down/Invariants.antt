@@ -1,0 +1,16 @@
+use Prim.Native.Nat.{ℕ, ◌+◌, ◌-◌, ◌≤◌, ◌<◌}
+use mathlib.Core.Path.{◌≡◌, refl, ap, ◌∙◌}
+use mathlib.Core.List.{List, ◌++◌}
+use native.Mathlib.Omega.{arith}
+use lib.ListN.{length, get_or, take, drop, set, length-set, length-drop}
+use lib.Seq.{take_all}
+use Rattle.buffers.proofs.Loops.{copy_more, read_ahead}
+use Rattle.buffers.proofs.move_down.Given as goal
+
+-- i bytes from n on stand over the front of dst
+abbrev pub invariant-loop-i : goal.invariant-loop-i
+invariant-loop-i l =
+    (length l.dst ≡ length l.initial.dst) × (l.i ≤ l.count) × (l.dst ≡ take l.i (drop l.n l.initial.dst) ++ drop l.i l.initial.dst)
+
+abbrev pub decreases-loop-i : goal.decreases-loop-i
+decreases-loop-i l = l.count - l.i

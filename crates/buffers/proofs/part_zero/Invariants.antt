@@ -1,0 +1,18 @@
+use Prim.Native.Nat.{◌≤◌, ◌<◌, ◌-◌}
+use mathlib.Core.Path.{◌≡◌, refl, sym, ◌∙◌}
+use mathlib.Core.Bool.{◌&&◌}
+use native.Mathlib.Omega.{arith}
+use lib.Dec.{eqb}
+use lib.ListN.{length, drop}
+use lib.Seq.{drop-length}
+use Rattle.lists.specs.Lists.{every, all_zero}
+use Rattle.lists.proofs.Bools.{and_assoc, and_nil}
+use Rattle.buffers.proofs.Loops.{joined, zero_step}
+use Rattle.buffers.proofs.part_zero.Given as goal
+
+-- the bytes joined so far and the bytes to come are all zero just where the whole is
+abbrev pub invariant-loop-i : goal.invariant-loop-i
+invariant-loop-i l = (l.i ≤ length l.s) × (eqb l.all 0 && all_zero (drop l.i l.s) ≡ all_zero l.s)
+
+abbrev pub decreases-loop-i : goal.decreases-loop-i
+decreases-loop-i l = length l.s - l.i
