@@ -49,11 +49,11 @@ module _ (bs : List ℕ) where
   unfolding three_at
   three_on at map bit n next =
       field_at_lem at (stands map bit) n _
-      ∙ on_after next _ _ (field_at bs at (stands map bit) n) (λ x.
-      field_at_lem x.1 (stands map (bit + 1)) 8 _
-      ∙ on_after next _ _ (field_at bs x.1 (stands map (bit + 1)) 8) (λ y.
+      ∙ on_after next (λ x. field (stands map (bit + 1)) 8 (λ y. field (stands map (bit + 2)) 2 (next x y))) _ (field_at bs at (stands map bit) n) (λ x.
+      field_at_lem x.1 (stands map (bit + 1)) 8 (λ y. field (stands map (bit + 2)) 2 (next x.0 y))
+      ∙ on_after next (λ y. field (stands map (bit + 2)) 2 (next x.0 y)) _ (field_at bs x.1 (stands map (bit + 1)) 8) (λ y.
       field_at_lem y.1 (stands map (bit + 2)) 2 (next x.0 y.0)
-      ∙ on_after next _ _ (field_at bs y.1 (stands map (bit + 2)) 2) (λ z. refl)))
+      ∙ on_after next (next x.0 y.0) _ (field_at bs y.1 (stands map (bit + 2)) 2) (λ z. refl)))
 
   -- by the case that the code found
   module _ (at map bit n : ℕ) (next : ℕ → ℕ → ℕ → List ℕ → Reading) {r : three.Three} (e : three_in r ≡ three_at bs at map bit n) where
