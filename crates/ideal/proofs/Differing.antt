@@ -170,6 +170,8 @@ pub indexed : {s t : State} {cs ds : List Call} (es fs : List Element) → SameB
     → Indexed call_on group (tables s) (tables t) (map element cs ++ es) (map element ds ++ fs)
 unfolding after
 indexed es fs k v w none none end more = more
+indexed {t = t} es fs k v w (none {s = s}) (call {c = c} {cs = cs} r' p' b) x33 more = elim x33 [ ]
+indexed {t = t} es fs k v w (call {s = s} {c = c} {cs = cs} r p a) none x16 more = elim x16 [ ]
 indexed es fs k v w (call r p a) (call r' p' b) (step {cs = cs} {ds = ds} l m rest) more =
     let next = same_effect (held group) k l (told m) p in
     both call_on group (alike_at l r r') (premise_at k v w r p (told m))

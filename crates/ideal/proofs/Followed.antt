@@ -163,9 +163,9 @@ module _ (log : List Logged) (look_up : ℕ → Handle → Option Escrowed) wher
   to_tests (suc left) (ends_here p e b) l =
       let c = p.clear in
       (rw (c.reads, c.named, c.vouched, p.value, e, b), rw (p.value, e))
-  to_tests (suc left) (leads_on_lem p e f) l =
+  to_tests {k = k} {bs = bs} (suc left) (leads_on_lem {m = m} {v = v} {hs = hs} p e f) l =
       let c = p.clear in
-      let later = to_tests left f (omega arith) in
+      let later = to_tests {k = m} left f (omega arith) in
       (rw (c.reads, c.named, c.vouched, p.value, e) later.0, rw (p.value, e, later.1) (omega arith))
 
   -- ---- the links by index

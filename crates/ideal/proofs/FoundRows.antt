@@ -29,14 +29,14 @@ module _ {Row Key : Type 0} (t : RowsOf Row Key) where
       → (at : ℕ) (l : List (Entry Key)) → f (find q (rows_from t at l)) ≡ g (find p l)
   unfolding find rows_from
   find_rows p q f g h n s at [] = n
-  find_rows p q f g h n s at (e ∷ l) = by_cases (p e) (λ b. rw (h e at, b) (s e at)) (λ b. rw (h e at, b) (find_rows p q f g h n s _ l))
+  find_rows p q f g h n s at (e ∷ l) = by_cases (p e) (λ b. rw (h e at, b) (s e at)) (λ b. rw (h e at, b) (find_rows p q f g h n s (at + length e.value) l))
 
   position_rows : (p : Entry Key → Bool) (q : Row → Bool)
       → ((e : Entry Key) (at : ℕ) → q (t.row e.key at (length e.value)) ≡ p e)
       → (at : ℕ) (l : List (Entry Key)) → position q (rows_from t at l) ≡ position p l
   unfolding position rows_from
   position_rows p q h at [] = refl
-  position_rows p q h at (e ∷ l) = rw (h e at, position_rows p q h _ l)
+  position_rows p q h at (e ∷ l) = rw (h e at, position_rows p q h (at + length e.value) l)
 
 -- a state that is read back from its tables
 module _ (s : State) (back : state_of (tables s) ≡ s) where

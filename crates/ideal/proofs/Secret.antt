@@ -339,7 +339,7 @@ same_rows : (secret : EscrowKey → Bool) (at : ℕ) {l m : List Escrowed} → S
     → rows_from escrow_table at l ≡ rows_from escrow_table at m
 unfolding rows_from
 same_rows secret at no_entries = refl
-same_rows secret at (entry x xs) = rw (x.key, x.size, same_rows secret _ xs)
+same_rows secret at (entry {q = q} x xs) = rw (x.key, x.size, same_rows secret (at + length q.value) xs)
 
 module _ (z : Secrets) {s t : State} (k : SameBut z s t) where
   pub same_box : box_record s ≡ box_record t
