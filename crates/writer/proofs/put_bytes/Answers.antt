@@ -19,7 +19,7 @@ put-requires c =
     let a = c.args in
     omega (
       arith,
-      c.put_number.auto.0,
+      c.put_number.auto.out,
       present a.map 6 (2 + length a.bytes.now) (sym c.has.ensures ∙ c.if-has.true),
     )
 

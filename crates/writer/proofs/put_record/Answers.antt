@@ -24,18 +24,18 @@ put_field-c-requires c = omega arith
 
 pub put_field-d-requires : goal.put_field-d-requires
 unfolding record_size
-put_field-d-requires c = omega (arith, (goal.at.put_field-d-requires c).After-put_field-a)
+put_field-d-requires c = omega (arith, c.requires, c.put_field-a.ensures, c.put_field-b.ensures, c.put_field-c.ensures)
 
 pub put_field-e-requires : goal.put_field-e-requires
 unfolding record_size
-put_field-e-requires c = omega (arith, (goal.at.put_field-e-requires c).After-put_field-a)
+put_field-e-requires c = omega (arith, c.requires, c.put_field-a.ensures, c.put_field-b.ensures, c.put_field-c.ensures, c.put_field-d.ensures)
 
 pub put_bytes-requires : goal.put_bytes-requires
 unfolding record_size
-put_bytes-requires c = omega (arith, (goal.at.put_bytes-requires c).After-put_field-a)
+put_bytes-requires c = omega (arith, c.requires, c.put_field-a.ensures, c.put_field-b.ensures, c.put_field-c.ensures, c.put_field-d.ensures, c.put_field-e.ensures)
 
 pub shape_of-out : goal.shape_of-out
-shape_of-out c = omega (arith, (goal.at.shape_of-out c).After-put_field-a)
+shape_of-out c = omega (arith, c.requires, c.put_field-a.ensures, c.put_field-b.ensures, c.put_field-c.ensures, c.put_field-d.ensures, c.put_field-e.ensures)
 
 pub returns : goal.returns
 unfolding record_of
