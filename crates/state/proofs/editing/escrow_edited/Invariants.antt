@@ -1,0 +1,17 @@
+use Prim.Native.Nat.{◌-◌}
+use mathlib.Core.Path.{◌≡◌, refl, sym, ◌∙◌}
+use native.Mathlib.Omega.{arith}
+use lib.ListN.{length, length-set, length-map}
+use borrow.Author.Rules.{rules}
+use Rattle.ideal.specs.Tables.{escrow_table}
+use Rattle.ideal.proofs.Table.{escrow_lawful}
+use Rattle.state.specs.Edits.{lowered_from}
+use Rattle.state.proofs.Lowered.{lower_next, lower_done}
+use Rattle.state.proofs.editing.escrow_edited.Given as goal
+
+abbrev pub invariant-loop-i : goal.invariant-loop-i
+invariant-loop-i l =
+    (length l.initial.more.rows ≡ 64) × (length l.more.rows ≡ 64) × (lowered_from escrow_table l.i l.fall l.more.rows ≡ lowered_from escrow_table l.initial.i l.fall l.initial.more.rows)
+
+abbrev pub decreases-loop-i : goal.decreases-loop-i
+decreases-loop-i l = 64 - l.i

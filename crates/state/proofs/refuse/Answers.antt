@@ -1,0 +1,5 @@
+use borrow.Author.Rules.{rules}
+use Rattle.state.proofs.refuse.Goals as goal
+
+pub returns : goal.returns
+returns c = rw (c.unedited.ensures, c.refused.ensures)
