@@ -25,8 +25,8 @@ use Rattle.shared.specs.Narrow.{shared_write_answer, shared_write_shared, shared
 use Rattle.shared.proofs.Bridge.{shared_write_step, shared_read_step}
 use Rattle.heap.specs.Narrow.{heap_write_answer, heap_write_heaps, heap_read_answer, heap_read_output}
 use Rattle.heap.proofs.Bridge.{heap_write_step, heap_read_step}
-use Rattle.log.specs.Narrow.{attest_on, check_on}
-use Rattle.log.proofs.Bridge.{attest_step, attest_alone, check_step}
+use Rattle.attesting.specs.Narrow.{attest_on, check_on}
+use Rattle.attesting.proofs.Bridge.{attest_step, attest_alone, check_step}
 use Rattle.escrow.specs.Narrow.{protect_on}
 use Rattle.escrow.proofs.Bridge.{protect_step, protect_alone}
 use Rattle.retrieval.specs.Narrow.{retrieve_answer, retrieve_heaps}

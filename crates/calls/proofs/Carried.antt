@@ -22,13 +22,13 @@ use Rattle.state.specs.Edits.{unchanged, EditsBy, Stored, stored}
 use Rattle.services.specs.Narrow.{create_on, exit_on, exit_heaps, report_on, hand_over_on}
 use Rattle.shared.specs.Narrow.{shared_write_answer, shared_write_shared, shared_read_answer, shared_read_output}
 use Rattle.heap.specs.Narrow.{heap_write_answer, heap_write_heaps, heap_read_answer, heap_read_output}
-use Rattle.log.specs.Narrow.{attest_on, check_on}
+use Rattle.attesting.specs.Narrow.{attest_on, check_on}
 use Rattle.escrow.specs.Narrow.{protect_on}
 use Rattle.retrieval.specs.Narrow.{retrieve_answer, retrieve_heaps}
 use Rattle.chain.specs.Narrow.{chain_answer}
 use Rattle.release.specs.Narrow.{release_on}
 use Rattle.state.proofs.Edited.{counts_kept}
-use Rattle.log.proofs.Bridge.{attest_edits}
+use Rattle.attesting.proofs.Bridge.{attest_edits}
 use Rattle.escrow.proofs.Bridge.{protect_edits}
 use Rattle.release.proofs.Bridge.{release_edits}
 use Rattle.calls.specs.Entry.{result_of, carried_on}

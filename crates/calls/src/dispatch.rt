@@ -12,7 +12,7 @@ use escrow::protect;
 use heap::{heap_read, heap_write};
 use ideal::{BoxRecord, Profile};
 use levels::own_refusal;
-use log::{attest, check_pair};
+use attesting::{attest, check_pair};
 use record::{Call, Part};
 use release::release;
 use retrieval::retrieve;

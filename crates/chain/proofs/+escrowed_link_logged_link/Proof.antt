@@ -89,11 +89,11 @@ module _ (t : ℕ) where
 
   escrowed-within : (k : Escrowed-known)
       → let end = k.before.start.given.0.1.0 in
-      (k.before.start.given.0.0 ≤ end) × (end ≤ length (escrowed-start k).args.escrow_values_lem.now)
+      (k.before.start.given.0.0 ≤ end) × (end ≤ length (escrowed-start k).args.escrow_values.now)
   unfolding ValueWithin
   escrowed-within k =
       let s = k.before.before.before.before.before.before.before.before in
-      rw k.before.start.given.1 at (k.before.before.before.escrowed-value.ensures.1 s.args.escrow_values_lem.now refl)
+      rw k.before.start.given.1 at (k.before.before.before.escrowed-value.ensures.1 s.args.escrow_values.now refl)
 
   escrowed-refused : escrowed-lts.Need-returns-2 (escrowed-claims t) (escrowed-at t) escrowed.Post
   unfolding in_escrow

@@ -37,7 +37,7 @@ logged-link-requires : tie.Need-logged-link-requires
 logged-link-requires c κs =
     let s = c.before.before.before.before.before.before.before.before.before.before.before.before.before.before.before.before in
     let made = c.before.before.before.before.columns_of.ensures in
-    first_fits s.args.t1 s.args.log.rows s.args.escrow.rows s.args.log_values_lem.now s.args.escrow_values_lem.now s.requires.1 s.requires.2 c.before.before.before.before.columns_of.result made.0 made.1 s.args.bytes.now
+    first_fits s.args.t1 s.args.log.rows s.args.escrow.rows s.args.log_values.now s.args.escrow_values.now s.requires.1 s.requires.2 c.before.before.before.before.columns_of.result made.0 made.1 s.args.bytes.now
 
 enum-known-first-2 : tie.Need-enum-known-first-2
 enum-known-first-2 c = search rules
@@ -46,7 +46,7 @@ escrowed-link-requires : tie.Need-escrowed-link-requires
 escrowed-link-requires c κs =
     let s = c.before.before.before.before.before.before.before.before.before.before.before.before.before.before.before.before in
     let made = c.before.before.before.before.columns_of.ensures in
-    first_fits s.args.t1 s.args.log.rows s.args.escrow.rows s.args.log_values_lem.now s.args.escrow_values_lem.now s.requires.1 s.requires.2 c.before.before.before.before.columns_of.result made.0 made.1 s.args.bytes.now
+    first_fits s.args.t1 s.args.log.rows s.args.escrow.rows s.args.log_values.now s.args.escrow_values.now s.requires.1 s.requires.2 c.before.before.before.before.columns_of.result made.0 made.1 s.args.bytes.now
 
 enum_told : tie.Need-enum-told
 enum_told c = search rules

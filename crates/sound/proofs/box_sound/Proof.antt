@@ -15,9 +15,9 @@ use Rattle.sound.proofs.box_sound.Tie as tie
 -- the arrays have their lengths by type, so that the parts are the whole
 whole : (c : tie.Start) (shared : List ℕ)
     → places_sound c.args.held c.args.heaps.now
-    && (log_sound c.args.log.rows c.args.log_values_lem.now c.args.held.log
-    && escrow_sound c.args.escrow.rows c.args.escrow_values_lem.now c.args.held.escrow)
-    ≡ sound (lent_tables c.args.held c.args.log.rows c.args.escrow.rows c.args.heaps.now shared c.args.log_values_lem.now c.args.escrow_values_lem.now)
+    && (log_sound c.args.log.rows c.args.log_values.now c.args.held.log
+    && escrow_sound c.args.escrow.rows c.args.escrow_values.now c.args.held.escrow)
+    ≡ sound (lent_tables c.args.held c.args.log.rows c.args.escrow.rows c.args.heaps.now shared c.args.log_values.now c.args.escrow_values.now)
 whole c shared =
     let a = c.args in
     sound_parts a.held a.log a.escrow a.heaps.now a.log_values_lem.now a.escrow_values_lem.now

@@ -34,7 +34,7 @@ same-length-5 c = search rules
 returns : tie.Need-returns
 returns c =
     let s = c.before.before.before.before.before.before.before.before.before.before.before.before.before.before.before.before.before.before.before.before.before.before.before.before in
-    rw (sym c.before.before.before.before.before.before.before.before.before.before.before.before.before.before.before.before.before.before.needs-box.ensures ∙ c.before.before.before.before.before.before.before.before.before.before.before.before.before.before.before.before.before.if1.true) (c.before.before.before.before.before.before.before.before.before.before.check.ensures ∙ ap (check_leaves call_on (lent_tables s.args.held s.args.log.rows s.args.escrow.rows s.args.heaps.now s.args.shared.now s.args.log_values_lem.now s.args.escrow_values_lem.now) s.args.output.now) c.before.before.before.before.before.before.before.before.before.before.before.claim-of.ensures)
+    rw (sym c.before.before.before.before.before.before.before.before.before.before.before.before.before.before.before.before.before.before.needs-box.ensures ∙ c.before.before.before.before.before.before.before.before.before.before.before.before.before.before.before.before.before.if1.true) (c.before.before.before.before.before.before.before.before.before.before.check.ensures ∙ ap (check_leaves call_on (lent_tables s.args.held s.args.log.rows s.args.escrow.rows s.args.heaps.now s.args.shared.now s.args.log_values.now s.args.escrow_values.now) s.args.output.now) c.before.before.before.before.before.before.before.before.before.before.before.claim-of.ensures)
 
 returns-2 : tie.Need-returns-2
 unfolding unasked

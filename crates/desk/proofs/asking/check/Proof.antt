@@ -34,7 +34,7 @@ same-length-5 c = search rules
 returns : tie.Need-returns
 returns c =
     let s = c.before.before.before.before.before.before.before.before.before.before.before.before.before.before.before.before.before.before.before.before.before.before.before.before.before in
-    checked s.args.held s.args.log s.args.escrow s.args.heaps.now s.args.shared.now s.args.log_values_lem.now s.args.escrow_values_lem.now s.args.output.now s.args.claim
+    checked s.args.held s.args.log s.args.escrow s.args.heaps.now s.args.shared.now s.args.log_values.now s.args.escrow_values.now s.args.output.now s.args.claim
     s.well-formed.1.1.1.1.1.1.1.1.0.1.1.0.1 s.well-formed.1.1.1.1.1.1.1.1.0.1.1.1.0.1.1.0.1
     c.before.before.before.before.before.before.before.before.before.before.before.call-sound.result _ _ _ _ _ _ c.before.before.before.before.before.before.before.before.before.before.before.before.before.before.before.before.before.before.before.check-record.ensures (c.before.before.before.before.before.before.before.before.before.before.before.call-sound.ensures.0 ∙ sound_entry Full _ _ _ s.requires)
 

@@ -3,9 +3,9 @@ use borrow.Author.Tests.{eq-eqb, ne_eqb}
 use borrow.Author.Rules.{rules}
 use Rattle.ideal.specs.Step.{first_holding}
 use Rattle.state.specs.Answers.{answered}
-use Rattle.log.specs.Narrow.{check_on}
-use Rattle.log.proofs.check_pair.Statement.{statement}
-use Rattle.log.proofs.check_pair.Tie as tie
+use Rattle.attesting.specs.Narrow.{check_on}
+use Rattle.attesting.proofs.check_pair.Statement.{statement}
+use Rattle.attesting.proofs.check_pair.Tie as tie
 
 refused-requires : tie.Need-refused-requires
 refused-requires c κs = search rules

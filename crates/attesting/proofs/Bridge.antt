@@ -28,7 +28,7 @@ use Rattle.state.proofs.Parts.{HeapFits, heap_fits, own_value, own_count}
 use Rattle.state.proofs.Rooms.{has_room}
 use Rattle.state.proofs.Settled.{answer_of, ShowsNone, part_settled, Moves, laid_step}
 use Rattle.state.proofs.Stores.{on_tables, on_log, log_edits, log_added, unless_edits, unless_alone, unless_step}
-use Rattle.log.specs.Narrow.{attested, attest_refusal, attest_on, check_on}
+use Rattle.attesting.specs.Narrow.{attested, attest_refusal, attest_on, check_on}
 use Rattle.pairs.proofs.Pairs.{paired_logged}
 
 -- ---- attest, of any parts

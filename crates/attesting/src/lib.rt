@@ -7,7 +7,7 @@ ghost use Rattle.ideal.specs.Tables.{log_table};
 ghost use Rattle.state.specs.Counts.{Room};
 ghost use Rattle.state.specs.Edits.{stored, log_store, more};
 ghost use Rattle.state.specs.Parts.{TableFits};
-ghost use Rattle.log.specs.Narrow.{attest_value, attest_on, check_on};
+ghost use Rattle.attesting.specs.Narrow.{attest_value, attest_on, check_on};
 
 use buffers::put;
 use fnv::{Tag, tag_of};

@@ -7,9 +7,9 @@ use Rattle.ideal.proofs.Table.{part_length}
 use Rattle.ideal.specs.Step.{first_holding, beyond}
 use Rattle.state.specs.Answers.{settled}
 use Rattle.state.specs.Edits.{unless}
-use Rattle.log.specs.Narrow.{attest_value, attest_refusal, attest_on}
-use Rattle.log.proofs.attest.Statement.{statement}
-use Rattle.log.proofs.attest.Tie as tie
+use Rattle.attesting.specs.Narrow.{attest_value, attest_refusal, attest_on}
+use Rattle.attesting.proofs.attest.Statement.{statement}
+use Rattle.attesting.proofs.attest.Tie as tie
 
 refuse-requires : tie.Need-refuse-requires
 refuse-requires c κs = search rules

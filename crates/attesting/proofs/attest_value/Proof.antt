@@ -3,10 +3,10 @@ use borrow.Author.Rules.{rules}
 use Rattle.ideal.specs.Step.{first_holding}
 use Rattle.state.specs.Answers.{settled}
 use Rattle.state.specs.Edits.{unless}
-use Rattle.log.specs.Narrow.{attested, attest_value}
+use Rattle.attesting.specs.Narrow.{attested, attest_value}
 use Rattle.state.proofs.Rooms.{has_room}
-use Rattle.log.proofs.attest_value.Statement.{statement}
-use Rattle.log.proofs.attest_value.Tie as tie
+use Rattle.attesting.proofs.attest_value.Statement.{statement}
+use Rattle.attesting.proofs.attest_value.Tie as tie
 
 cast-in-log : tie.Need-overflow-cast-in-log
 cast-in-log c = search rules
