@@ -14,12 +14,10 @@ use Rattle.chain.proofs.logged_value.Goals as goal
 use Rattle.chain.proofs.logged_value.Goals.{In-At}
 
 -- the value that was taken
-abbrev taken : tie.After-known-told → ValueAndRest
+abbrev taken : In-At → ValueAndRest
 taken k =
-    let chain = k.before.before.before.before.before.before.args.chain.now in
-    let start = k.before.start.given.0.0 in
-    let end = k.before.start.given.0.1.0 in
-    record { value = take (end - start) (drop start chain); rest = drop end chain }
+    let chain = k.args.chain.now in
+    record { value = take (k.in-At.end - k.in-At.start) (drop k.in-At.start chain); rest = drop k.in-At.end chain }
 
 next : (k : In-At)
     → let x = k.args in
@@ -28,7 +26,7 @@ unfolding in_chain
 next k = rw k.in-At.is at k.next_value.ensures.result_value
 
 within : (k : In-At)
-    → (k.in-At.start ≤ end) × (end ≤ length k.args.chain.now)
+    → (k.in-At.start ≤ k.in-At.end) × (k.in-At.end ≤ length k.args.chain.now)
 unfolding ValueWithin
 within k = rw k.in-At.is at k.next_value.ensures.value_within
 
@@ -59,7 +57,7 @@ unfolding in_chain ValueWithin unreadable identity_of unvouched
 returns-then-not-logged_in c =
     let w = was_whole _ (next (goal.at.returns-then-not-logged_in c).In-At) in
     let f = c.if-identity-eq0.false in
-    record { by_index = λ found. unknown _ found _ _ w.0 f (rw (ap value w.1, ← c.logged_in.ensures) c.if-not-logged_in.true); value_within = tt }
+    record { by_index = λ found. unknown _ found _ _ w.0 f (rw (ap value w.1, ← c.logged_in.ensures, c.if-not-logged_in.true)); value_within = tt }
 
 pub returns : goal.returns
 unfolding in_chain ValueWithin unreadable identity_of unvouched link_value bytes_after
@@ -68,6 +66,6 @@ returns c =
     let f = c.if-identity-eq0.false in record {
       by_index = λ found.
           ap gives (sym w.1)
-          ∙ known _ found _ _ w.0 f (rw (ap value w.1, ← c.logged_in.ensures) c.if-not-logged_in.false);
+          ∙ known _ found _ _ w.0 f (rw (ap value w.1, ← c.logged_in.ensures, c.if-not-logged_in.false));
       value_within = within (goal.at.returns c).In-At;
     }

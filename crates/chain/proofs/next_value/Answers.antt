@@ -11,4 +11,4 @@ returns-in_default c = record { result_value = next_cut_lem _ _ (rw c.in_default
 pub returns : goal.returns
 unfolding in_chain ValueWithin CountedWithin
 returns c =
-    record { result_value = next_whole _ _ (rw given at c.counted_at.ensures.value); value_within = rw given at c.counted_at.ensures.counted_within }
+    record { result_value = next_whole _ _ (rw c.in-At.is at c.counted_at.ensures.value); value_within = rw c.in-At.is at c.counted_at.ensures.counted_within }

@@ -54,17 +54,17 @@ pub bounds-rows-at : goal.bounds-rows-at
 bounds-rows-at c = omega (arith, (found c).within)
 
 pub slice_bounds-take_out-count : goal.slice_bounds-take_out-count
-slice_bounds-take_out-count c = omega (arith, fits c.requires, c.find_row.ensures)
+slice_bounds-take_out-count c = omega (arith, fits (goal.at.slice_bounds-take_out-count c).In-At)
 
 pub slice_bounds-take_out-start : goal.slice_bounds-take_out-start
-slice_bounds-take_out-start c = omega (arith, fits c.requires, c.find_row.ensures)
+slice_bounds-take_out-start c = omega (arith, fits (goal.at.slice_bounds-take_out-start c).In-At)
 
 pub take_out-requires : goal.take_out-requires
 take_out-requires c =
     part_long c.args.values.now _ _ c.args.held.escrow.bytes (fits (goal.at.take_out-requires c).In-At) (omega (arith, c.requires.2.bytes, c.requires.1.size))
 
 pub spend-requires : goal.spend-requires
-spend-requires c = omega (arith, fits c.requires, c.find_row.ensures)
+spend-requires c = omega (arith, fits (goal.at.spend-requires c).In-At)
 
 pub returns : goal.returns
 returns c =

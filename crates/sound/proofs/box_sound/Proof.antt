@@ -20,7 +20,7 @@ whole : (c : tie.Start) (shared : List ℕ)
     ≡ sound (lent_tables c.args.held c.args.log.rows c.args.escrow.rows c.args.heaps.now shared c.args.log_values.now c.args.escrow_values.now)
 whole c shared =
     let a = c.args in
-    sound_parts a.held a.log a.escrow a.heaps.now a.log_values_lem.now a.escrow_values_lem.now
+    sound_parts a.held a.log a.escrow a.heaps.now a.log_values.now a.escrow_values.now
     (record {
       identities = sym (length-map a.held.identities (λ v. v)) ∙ c.well-formed.0.1.1.1.1.0.1.0.1;
       log_rows = sym (length-map a.log.rows _) ∙ c.well-formed.1.0.1.1.0.1.0.1;

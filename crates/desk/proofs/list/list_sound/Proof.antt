@@ -59,7 +59,7 @@ loop-again : tie.Need-loop-preserved invariant-loop decreases-loop
 loop-again c =
     let s = c.before.before.before.before.before.before.before.before.before.before.before.before.before.before.before.before.before.before.before.before.before.before.before.before.before in
     let less : c.before.before.before.before.before.before.before.before.before.before.before.before.before.before.before.before.before.before.loop.i < 8 = c.before.before.before.before.before.before.before.before.before.before.before.before.before.before.before.before.before.loop-test.true in
-    (omega (arith, less), turned call_on (lent_tables s.args.held s.args.log.rows s.args.escrow.rows s.args.heaps.now s.args.shared.now s.args.log_values.now s.args.escrow_values.now) s.args.output.now s.args.t1.rows c.before.before.before.before.before.before.before.before.before.before.before.before.before.before.before.before.before.before.loop.i c.before.before.before.before.before.before.before.before.before.before.before.before.before.before.before.before.before.before.loop.answers.rows (lent_tables s.args.held s.args.log.rows s.args.escrow.rows c.before.before.before.before.before.before.before.before.before.before.before.before.before.before.before.before.before.before.loop.heaps c.before.before.before.before.before.before.before.before.before.before.before.before.before.before.before.before.before.before.loop.shared c.before.before.before.before.before.before.before.before.before.before.before.before.before.before.before.before.before.before.loop.log_values_lem c.before.before.before.before.before.before.before.before.before.before.before.before.before.before.before.before.before.before.loop.escrow_values_lem) c.before.before.before.before.before.before.before.before.before.before.before.before.before.before.before.before.before.before.loop.output (sym (length-map s.args.t1.rows _) ∙ s.well-formed.0.1.1.0.1.0.1) c.before.before.before.before.before.before.before.before.before.before.before.before.before.before.before.before.before.before.loop.invariant.1 c.before.before.before.before.before.before.before.before.before.before.desk-of.result _ _ _ less c.before.before.before.before.before.before.before.before.before.before.desk-of.ensures)
+    (omega (arith, less), turned call_on (lent_tables s.args.held s.args.log.rows s.args.escrow.rows s.args.heaps.now s.args.shared.now s.args.log_values.now s.args.escrow_values.now) s.args.output.now s.args.t1.rows c.before.before.before.before.before.before.before.before.before.before.before.before.before.before.before.before.before.before.loop.i c.before.before.before.before.before.before.before.before.before.before.before.before.before.before.before.before.before.before.loop.answers.rows (lent_tables s.args.held s.args.log.rows s.args.escrow.rows c.before.before.before.before.before.before.before.before.before.before.before.before.before.before.before.before.before.before.loop.heaps c.before.before.before.before.before.before.before.before.before.before.before.before.before.before.before.before.before.before.loop.shared c.before.before.before.before.before.before.before.before.before.before.before.before.before.before.before.before.before.before.loop.log_values c.before.before.before.before.before.before.before.before.before.before.before.before.before.before.before.before.before.before.loop.escrow_values) c.before.before.before.before.before.before.before.before.before.before.before.before.before.before.before.before.before.before.loop.output (sym (length-map s.args.t1.rows _) ∙ s.well-formed.0.1.1.0.1.0.1) c.before.before.before.before.before.before.before.before.before.before.before.before.before.before.before.before.before.before.loop.invariant.1 c.before.before.before.before.before.before.before.before.before.before.desk-of.result _ _ _ less c.before.before.before.before.before.before.before.before.before.before.desk-of.ensures)
 
 same_length : tie.Need-same-length invariant-loop decreases-loop
 same_length c = ap (λ (x : Left (List TankAnswer)). length x.tables.heaps) c.before.loop.invariant.1
@@ -79,7 +79,7 @@ same-length-5 c = ap (λ (x : Left (List TankAnswer)). length x.output) c.before
 returns : tie.Need-returns invariant-loop decreases-loop
 returns c =
     let s = c.before.before.before.before.before.before.before.before in
-    listed call_on (lent_tables s.args.held s.args.log.rows s.args.escrow.rows s.args.heaps.now s.args.shared.now s.args.log_values.now s.args.escrow_values.now) s.args.output.now s.args.t1.rows c.before.loop.i c.before.loop.answers.rows (lent_tables s.args.held s.args.log.rows s.args.escrow.rows c.before.loop.heaps c.before.loop.shared c.before.loop.log_values_lem c.before.loop.escrow_values_lem) c.before.loop.output (sym (length-map s.args.t1.rows _) ∙ s.well-formed.0.1.1.0.1.0.1) c.before.loop.invariant.1 c.before.loop.invariant.0 c.loop-test.false
+    listed call_on (lent_tables s.args.held s.args.log.rows s.args.escrow.rows s.args.heaps.now s.args.shared.now s.args.log_values.now s.args.escrow_values.now) s.args.output.now s.args.t1.rows c.before.loop.i c.before.loop.answers.rows (lent_tables s.args.held s.args.log.rows s.args.escrow.rows c.before.loop.heaps c.before.loop.shared c.before.loop.log_values c.before.loop.escrow_values) c.before.loop.output (sym (length-map s.args.t1.rows _) ∙ s.well-formed.0.1.1.0.1.0.1) c.before.loop.invariant.1 c.before.loop.invariant.0 c.loop-test.false
 
 pub list-sound-spec : {M : Type 1} → statement M
 list-sound-spec =
