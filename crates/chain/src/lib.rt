@@ -113,7 +113,7 @@ fn escrowed_value(
 ) -> Value
     requires { (m ≤ 64) × EscrowedWithin columns.now m size }
     ensures by_index { (values : List ℕ) (log : List Logged) (chain : List ℕ) → in_escrow values chain result ≡ vouched log (found_in columns.now m caller values) (escrowed_link identity handle) chain }
-    ensures by_index_2 { (values : List ℕ) → length values ≡ size → ValueWithin values result }
+    ensures value_within { (values : List ℕ) → length values ≡ size → ValueWithin values result }
 {
     if identity == 0 {
         return Value::Refused(9);

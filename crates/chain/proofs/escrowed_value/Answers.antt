@@ -15,7 +15,7 @@ use Rattle.chain.proofs.escrowed_value.Goals as goal
 
 pub returns-then-identity-eq0 : goal.returns-then-identity-eq0
 unfolding in_escrow ValueWithin unreadable identity_of
-returns-then-identity-eq0 c = record { by_index = λ values log chain. nobody log _ _ _ refl c.if-identity-eq0.true; by_index_2 = λ values fits. tt }
+returns-then-identity-eq0 c = record { by_index = λ values log chain. nobody log _ _ _ refl c.if-identity-eq0.true; value_within = λ values fits. tt }
 
 pub loop-i-init : goal.loop-i-init
 loop-i-init c =
@@ -35,7 +35,7 @@ returns-then-escrowed_at c =
           let one = rw (rows_step (escrowed_row x.columns.now) l.i x.m c.loop-i-test.true, t) at (l.invariant.1 values) in
           let is = known log (found_in x.columns.now x.m x.caller values) (escrowed_link x.identity x.handle) chain refl c.if-identity-eq0.false (rw (← one)) in
           rw add-sub_cancel_left (rw (← one) at is);
-      by_index_2 = λ values fits. (omega arith, rw fits (c.requires.1 l.i c.loop-i-test.true));
+      value_within = λ values fits. (omega arith, rw fits (c.requires.1 l.i c.loop-i-test.true));
     }
 
 pub loop-i-preserved : goal.loop-i-preserved
@@ -57,5 +57,5 @@ returns c =
       by_index = λ values log chain.
           let None-found = rw (rows_end (escrowed_row x.columns.now) l.i x.m c.loop-i-test.false) at (l.invariant.1 values) in
           unknown log _ _ _ refl c.if-identity-eq0.false (rw (← None-found));
-      by_index_2 = λ values fits. tt;
+      value_within = λ values fits. tt;
     }
