@@ -52,7 +52,7 @@ module _ (s : State) (valid : Valid s) where
             is = same_leads (sym q ∙ h);
           }
 
-  pub comes_to : {k l : Link} {bs rest : List ℕ} {left : ℕ} → Comes s.log (found s) k bs left l rest
+  pub comes_to : {k : Link} {bs : List ℕ} {l : Link} {rest : List ℕ} {left : ℕ} → Comes s.log (found s) k bs left l rest
       → (left ≤ 16) × ComesTo (tables s) k bs (16 - left) l rest
   comes_to at-start = (omega arith, at_first)
   comes_to (on {left = left} {l = l} {m = m} {rest = rest} come c e) =

@@ -1,0 +1,6 @@
+use mathlib.Core.Path.{refl}
+use borrow.Author.Rules.{rules}
+use Rattle.sheet.proofs.text.put_byte.Goals as goal
+
+pub returns : goal.returns
+returns c = record { place = refl; bytes = refl }

@@ -1,0 +1,30 @@
+use Prim.Native.Nat.{ℕ, ◌-◌, ◌≤◌}
+use mathlib.Core.List.{List}
+use mathlib.Core.Logic.{⊎_elim}
+use mathlib.Core.Path.{◌≡◌, refl}
+use native.Mathlib.Omega.{arith}
+use lib.ListN.{length, get_or}
+use borrow.Author.Rules.{rules}
+use borrow.Author.Tests.{eqb-true, eq-eqb, ne_eqb}
+use Rattle.ideal.specs.Soundness.{same_handle}
+use Rattle.ideal.specs.Step.{has_handle}
+use Rattle.ideal.specs.Tables.{escrow_table}
+use Rattle.ideal.specs.declared.EscrowRow.{EscrowRow}
+use Rattle.soundness.proofs.Seen.{slot_of, slot_within, Seen, none_seen, seen_more, LikeFrom, DifferFrom, from_first, unseen, like_later, differ_not, differ_later, differ_all}
+use Rattle.soundescrow.proofs.handles_differ.Given as goal
+
+abbrev pub number : EscrowRow → ℕ
+number r = r.handle.0
+
+abbrev pub invariant-loop-j : goal.invariant-loop-j
+invariant-loop-j l = (l.j ≤ l.i) × ((values : List ℕ) → LikeFrom escrow_table same_handle values l.rows l.i l.j)
+
+abbrev pub decreases-loop-j : goal.decreases-loop-j
+decreases-loop-j l = l.i - l.j
+
+abbrev pub invariant-loop-i : goal.invariant-loop-i
+invariant-loop-i l =
+    (l.i ≤ l.n) × Seen escrow_table.blank number l.rows l.i l.seen × ((values : List ℕ) → DifferFrom escrow_table same_handle values l.rows l.n l.i)
+
+abbrev pub decreases-loop-i : goal.decreases-loop-i
+decreases-loop-i l = l.n - l.i
