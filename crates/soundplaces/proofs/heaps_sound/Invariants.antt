@@ -1,0 +1,20 @@
+use Prim.Native.Nat.{◌*◌, ◌≤◌, ◌-◌}
+use mathlib.Core.Path.{sym, ◌∙◌, ◌≡◌, refl}
+use native.Mathlib.Nat.{add-sub_cancel_left}
+use native.Mathlib.Omega.{arith}
+use lib.Seq.{drop-length}
+use lib.ListN.{length, drop}
+use borrow.Author.Tests.{not-true, not-false}
+use borrow.Author.Rules.{rules}
+use Rattle.ideal.specs.Soundness.{empty_heaps_zero}
+use Rattle.ideal.specs.Tables.{chunks}
+use Rattle.soundness.proofs.MapAndHeaps.{heap_step}
+use Rattle.soundplaces.proofs.heaps_sound.Given as goal
+
+-- the places to come are right just where all are
+abbrev pub invariant-loop-i : goal.invariant-loop-i
+invariant-loop-i l =
+    (l.i ≤ 16) × (empty_heaps_zero (drop l.i l.identities) (drop l.i (chunks 16 l.heaps)) ≡ empty_heaps_zero l.identities (chunks 16 l.heaps))
+
+abbrev pub decreases-loop-i : goal.decreases-loop-i
+decreases-loop-i l = 16 - l.i

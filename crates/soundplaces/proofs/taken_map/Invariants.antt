@@ -1,0 +1,15 @@
+use Prim.Native.Nat.{◌<◌, ◌+◌, ◌-◌, ◌≤◌}
+use mathlib.Core.Path.{sym, ap, ◌≡◌}
+use native.Mathlib.Omega.{arith}
+use lib.ListN.{drop_of_length-le, get_or, length, drop}
+use borrow.Author.Rules.{rules}
+use Rattle.ideal.specs.Tables.{taken_map}
+use Rattle.soundness.proofs.MapAndHeaps.{map_step, map_rest, bit_small}
+use Rattle.soundplaces.proofs.taken_map.Given as goal
+
+-- the map of the places from i on
+abbrev pub invariant-loop-i : goal.invariant-loop-i
+invariant-loop-i l = (l.i ≤ 16) × (l.map ≡ taken_map (drop l.i l.identities))
+
+abbrev pub decreases-loop-i : goal.decreases-loop-i
+decreases-loop-i l = l.i
