@@ -7,12 +7,12 @@ ghost use Rattle.calls.specs.Entry.{result_of, carried_in, carried_on};
 ghost use Rattle.state.specs.Edits.{unchanged, EditsBy};
 ghost use Rattle.calls.specs.Alone.{Alone};
 
+use attesting::{attest, check_pair};
 use chain::follow_chain;
 use escrow::protect;
 use heap::{heap_read, heap_write};
 use ideal::{BoxRecord, Profile};
 use levels::own_refusal;
-use attesting::{attest, check_pair};
 use record::{Call, Part};
 use release::release;
 use retrieval::retrieve;

@@ -1,0 +1,6 @@
+use lib.Seq.{set-get_or}
+use borrow.Author.Rules.{rules}
+use Rattle.calls.proofs.with_used.Goals as goal
+
+pub returns : goal.returns
+returns c = rw set-get_or
