@@ -35,6 +35,7 @@ among_in : {s : List ℕ} {ss : List (List ℕ)} → Among s ss → In s ss
 among_in {s} {ss} a = subst (λ x. In x ss) a.is (at_in ss a.index a.within)
 
 in_left : {s : List ℕ} (l m : List (List ℕ)) → In s l → In s (l ++ m)
+in_left {s = s} [] m x' = elim x' [ ]
 in_left (s ∷ l) m here = here
 in_left (r ∷ l) m (there i) = there (in_left l m i)
 
@@ -62,6 +63,7 @@ record Part (s : List ℕ) (m : ℕ) (f : ℕ → List (List ℕ)) : Type 0 wher
 
 in_joined : {s : List ℕ} (m : ℕ) (f : ℕ → List (List ℕ)) → In s (joined_to m f) → Part s m f
 unfolding joined_to
+in_joined {s = s} zero f a = elim a [ ]
 in_joined (suc m) f a =
     elim (in_split (f 0) _ a) [
       | inl b ↦ record { index = 0; below = omega arith; there_in = b }
@@ -83,6 +85,7 @@ record Front (s : List ℕ) (i : ℕ) (ss : List (List ℕ)) : Type 0 where
   rest_in : In rest ss
 
 in_map : {s : List ℕ} (i : ℕ) (ss : List (List ℕ)) → In s (map (λ r. i ∷ r) ss) → Front s i ss
+in_map {s = s} i [] x' = elim x' [ ]
 in_map i (r ∷ ss) here = record { rest = r; is = refl; rest_in = here }
 in_map i (r ∷ ss) (there a) = let f = in_map i ss a in record { rest = f.rest; is = f.is; rest_in = there f.rest_in }
 
@@ -104,6 +107,7 @@ sequence_in m (suc n) (i ∷ s) q =
 
 in_sequence : (m n : ℕ) (s : List ℕ) → In s (sequences m n) → Sequence m n s
 unfolding sequences
+in_sequence m zero s (there x4) = elim x4 [ ]
 in_sequence m zero s here = record { count = refl; indexes = λ k h. absurd (omega arith) }
 in_sequence m (suc n) s a =
     let p = in_joined m (λ j. map (λ r. j ∷ r) (sequences m n)) a in
@@ -149,6 +153,7 @@ module _ (box : Tables → Element → Result) (rs : List (List ℕ)) where
 
   in_accepted : {s : List ℕ} (ss : List (List ℕ)) → In s (accepted_of box rs ss) → In s ss × (accepts box rs s ≡ true)
   unfolding accepted_of
+  in_accepted {s = s} [] a = elim a [ ]
   in_accepted (r ∷ ss) a =
       by_cases (accepts box rs r)
       (λ e. in_kept (λ b. in_accepted ss b) e (rw e at a))
@@ -156,6 +161,7 @@ module _ (box : Tables → Element → Result) (rs : List (List ℕ)) where
 
   accepted_in : {s : List ℕ} (ss : List (List ℕ)) → In s ss → accepts box rs s ≡ true → In s (accepted_of box rs ss)
   unfolding accepted_of
+  accepted_in {s = s} [] x'' e = elim x'' [ ]
   accepted_in (s ∷ ss) here e = rw e here
   accepted_in (r ∷ ss) (there a) e =
       let q = accepted_in ss a e in by_cases (accepts box rs r) (λ f. rw f (there q)) (λ f. rw f q)
