@@ -5,7 +5,7 @@
 --     more, writes     a turn that copies one row: it is read, and written
 --     ends, closes     the turn that leaves the loop, and the rest of the body
 -- Assumes nothing.
-use types.Logic.{Logic, sem}
+use types.Logic.{Logic}
 use denote.Slice.{shr_slice_vals}
 use denote.Ref.{Bor}
 use mathlib.Core.Path.{◌≡◌, refl, sym, ◌∙◌, ap, subst}
@@ -19,12 +19,12 @@ use mathlib.Core.List.{List, [], ◌∷◌, ◌++◌}
 use lib.ListN.{length, get_or, set, take, drop as dropped, length-set}
 use lib.WfN.{lt-wf_rel}
 use lib.Dec.{T, ltb, ltb→lt, nltb→le, lit<}
-use Rattle.lending.proofs.Walk.{Ura, full_share, Name, Ty, Fn, Body, named, imm, w64, ty_int, ty_bool, ty_ptr, ty_ref, local, value_local, memory_slot, skip, seq, assign, block, loop, cond, exit, return, call, place, deref, copy, int, rv_opd, op2, lt, add, mul, unsigned, offset, addr_of, field, Val, vbool, vint, vptr, SProp, ent, emp, id⊢, ex_e, snd∗, Lft, Share, Fml, ftrue, fat, froom, fdies, flft, size, Out, Env, after_seq, after_block, after_turn, Calls, Loops, Wp, at_return, WpFn, Tables, sem, fact, Lfts, Item, ‵, raw, ◌⊛◌, some, later, ⋆, runs, any_q, at_ret, Sq, ◌$◌, ◌∵◌, !, qed, by, move, keep, drop, use0, use1, use2, split, join, pick, await, rewrite, fsplit, fjoin, suffices, frame, done, look, fld, store, store_raw, init, forget, stop, hop, from, load, lit, no_more, and_then, of_opd, bin, addr, assigns, assigns_last, land, first, blocks, stays, leaves_loop, enter, alloc1, alloc0, params1, pass1, pass0, free1, free0, exec, Below, again, loops, whole, sub, look_in, FmC, fm_of, WpFn-mono, owns, Is, shows, uint_Makes, usize, SliceRefOf, ArrayOf, RefT, slice_ty, slice_val, ShrSlice, Room, slice-vals, shr_slice_Tells, shr_slice_Lawful, shr_slice_copy, place_is, elem_out, elem_put, Signature, plain, nothing, owned, peeks, heard, only, calls_at, Ended, Clauses, AtExit, closing, ensured, lasts, Args, Res, on_entry, Meets, triple_of, Contract, Triple, says, needs, Stays, stay_none_slice, walk_of, Goes-none_slice, ends_at, walked, walk_Meets, yes}
+use Rattle.lending.proofs.Walk.{Ura, full_share, Name, Ty, Fn, Body, named, imm, w64, ty_int, ty_bool, ty_ptr, ty_ref, local, value_local, memory_slot, skip, seq, assign, block, loop, cond, exit, return, call, place, deref, copy, int, rv_opd, op2, lt, add, mul, unsigned, offset, addr_of, field, Val, vbool, vint, vptr, SProp, ent, emp, id⊢, ex_e, snd∗, Lft, Share, Fml, ftrue, fat, froom, fdies, flft, size, Out, Env, after_seq, after_block, after_turn, Calls, Loops, Wp, at_return, WpFn, Tables, sem, fact, Lfts, Item, ‵, raw, ◌⊛◌, some, later, ⋆, runs, any_q, at_ret, Sq, ◌$◌, ◌∵◌, !, qed, by, move, keep, drop, use0, use1, use2, split, join, pick, await, rewrite, fsplit, fjoin, suffices, frame, done, look, fld, store, store_raw, init, forget, stop, hop, from, load, lit, no_more, and_then, of_opd, bin, addr, assigns, assigns_last, land, first, blocks, stays, leaves_loop, enter, alloc1, alloc0, params1, pass1, pass0, free1, free0, exec, Below, again, loops, whole, sub, look_in, FmC, fm_of, WpFn-mono, owns, Is, shows, uint_Makes, usize, SliceRefOf, ArrayOf, slice_ty, slice_val, ShrSlice, Room, shr_slice_Tells, shr_slice_Lawful, shr_slice_copy, place_is, elem_out, elem_put, Signature, plain, nothing, owned, peeks, heard, only, calls_at, Ended, Clauses, AtExit, closing, ensured, lasts, Args, Res, on_entry, Meets, triple_of, Contract, Triple, says, needs, Stays, stay_none_slice, walk_of, Goes-none_slice, ends_at, walked, walk_Meets, yes}
 use types.Run.{returns}
 use denote.Index.{row}
 use denote.Triple.Walked.{Walks}
 use Rattle.lending.proofs.Says.{Ensures, asking, saying, Tells, says_so}
-use Rattle.lending.proofs.Kind.{Kind, R, by_val, ref, val, vals, tells, offset_fits, makes, lawful}
+use Rattle.lending.proofs.Kind.{Kind, R, by_val, ref, val, vals, tells, offset_fits, row_laws, makes, lawful}
 use Rattle.lending.proofs.LocalRows.{Rows, by_vals, rows_val, rows_val_is, rows_long, rows_makes, rows_lawful, rows_apart, rows_whole}
 use Rattle.lending.proofs.Written.{written, all_written}
 use Rattle.lending.proofs.RowAt as Ra
@@ -84,6 +84,8 @@ module _ (k : Kind) (d : k.type.D) (t : Kind) (rows : t.type.D → List k.type.D
   function = record {
     lifetimes = 1;
     outlives = [];
+    ty_params = [];
+    givens = 0;
     params = 1;
     body = seq (call #blank [] (place 4 [])) t_2;
     locals = local (by_val t) value_local ∷ local (slice_ty (ty_ref (named 0) imm (ref k))) value_local ∷ local (by_vals k N) memory_slot ∷ local (ty_int w64) value_local ∷ local (by_vals k N) value_local ∷ local (ty_int w64) value_local ∷ local ty_bool value_local
@@ -122,7 +124,7 @@ module _ (k : Kind) (d : k.type.D) (t : Kind) (rows : t.type.D → List k.type.D
 
     -- the machine value that s has
     abbrev v : Val
-    v = slice_val s.ptr (length ys)
+    v = slice_val s.ref_ptr (length ys)
 
     abbrev Post : Val → SProp 𝓤
     Post = (walk_of 𝓛 ended stayed (clauses 𝓤)).post (((κ, tt), (q, tt), tt, (s, tt), (v ∷ [], tt)), tt)
@@ -162,8 +164,8 @@ module _ (k : Kind) (d : k.type.D) (t : Kind) (rows : t.type.D → List k.type.D
     abbrev to_table : List Row → (TableOf 𝓛).Ghost
     to_table acc = ((tt, tt, tt, (acc, tt), (rows_val k N acc ∷ [], tt)), tt)
 
-    goes_table : (acc : List Row) → ent 𝓤 (sem 𝓛 ((Rows k N).own acc (rows_val k N acc ∷ []))) ((TableOf 𝓛).pre (to_table acc))
-    goes_table acc = qed 𝓛 (‵ ((Rows k N).own acc (rows_val k N acc ∷ [])) ∷ []) ∵ nothing ! $ move ! (1 ∷ 0 ∷ []) $ fjoin ! $ nothing ! $ join ! $ frame ! $ done !
+    goes_table : (acc : List Row) → ent 𝓤 (sem 𝓛 ((Rows k N).own_val acc (rows_val k N acc ∷ []))) ((TableOf 𝓛).pre (to_table acc))
+    goes_table acc = qed 𝓛 (‵ ((Rows k N).own_val acc (rows_val k N acc ∷ [])) ∷ []) ∵ nothing ! $ move ! (1 ∷ 0 ∷ []) $ fjoin ! $ nothing ! $ join ! $ frame ! $ done !
 
     table_said : (acc : List Row) (tab : Table) → ent 𝓤 (ensured 𝓛 table_ended (table_clauses 𝓤) tt (acc, tt) tt tab) (fact 𝓤 (rows tab ≡ acc))
     table_said acc tab = ex_e 𝓤 _ (λ ws. snd∗ 𝓤 (sem 𝓛 (lasts table_ended tt (acc, tt) ws)) (fact 𝓤 (rows tab ≡ acc)))
@@ -273,10 +275,10 @@ module _ (k : Kind) (d : k.type.D) (t : Kind) (rows : t.type.D → List k.type.D
           assigns ! (bin ! (load ! (from ! (stop !)) (look ! 12 refl)) (load ! (from ! (stop !)) (look ! 8 refl)) tt) (from ! (stop !)) (init ! 6 refl (tt, tt)) $
           rewrite ! 6 (λ (z : Bool). ‵ (fat full_share ty_bool l₆ 0 (vbool z))) e refl $ stays ! (load ! (from ! (stop !)) (look ! 6 refl)) $
           -- `log_row_at`: a copy of what rows owns is passed
-          move ! (21 ∷ 20 ∷ []) $ use1 𝓛 (‵ Own ⊛ ‵ Own) ((shr_slice_copy 𝓛 (named 0) κ (R k)).twice s (v ∷ [])) $ split ! $ move ! (2 ∷ 0 ∷ []) $
+          move ! (21 ∷ 20 ∷ []) $ use1 𝓛 (‵ Own ⊛ ‵ Own) ((shr_slice_copy 𝓛 (named 0) κ (R k) (row_laws k)).twice s (v ∷ [])) $ split ! $ move ! (2 ∷ 0 ∷ []) $
           use2 𝓛 (raw ((RowAt 𝓛).pre (to_row_at i))) (goes_row_at i less) $
           calls_at ! fm (RowAt 𝓛) known-row-at (to_row_at i) (and_then ! (load ! (from ! (stop !)) (look ! 18 refl)) (and_then ! (load ! (from ! (stop !)) (look ! 14 refl)) (no_more !))) (λ u.
-          use1 𝓛 (later (some (λ (r : Row). ((‵ (flft κ q) ⊛ ‵ ftrue) ⊛ ‵ ((R k).own r (u ∷ []))) ⊛ raw (ensured 𝓛 (Ra.ended k d) (Ra.clauses k d 𝓤) (κ, tt) (s, (i, tt)) tt r)))) (id⊢ 𝓤 _) $ await ! tt $ pick ! (λ r.
+          use1 𝓛 (later (some (λ (r : Row). ((‵ (flft κ q) ⊛ ‵ ftrue) ⊛ ‵ ((R k).own_val r (u ∷ []))) ⊛ raw (ensured 𝓛 (Ra.ended k d) (Ra.clauses k d 𝓤) (κ, tt) (s, (i, tt)) tt r)))) (id⊢ 𝓤 _) $ await ! tt $ pick ! (λ r.
           split ! $ move ! (1 ∷ []) $ use1 𝓛 (raw (fact 𝓤 (r ≡ get_or ys i d))) (row_said i r) $ heard ! (r ≡ get_or ys i d) (λ er. split ! $ move ! (1 ∷ []) $
           peeks ! (R k) (Is (R k)) (shows 𝓛 (R k)) r (u ∷ []) (λ isr.
           -- [what the row owns; the token; what rows owns; _9 at 3; … _7 at 7; …]
@@ -294,7 +296,7 @@ module _ (k : Kind) (d : k.type.D) (t : Kind) (rows : t.type.D → List k.type.D
           assigns ! (of_opd ! (load ! (from ! (stop !)) (look ! 14 refl))) (from ! (stop !)) (init ! 10 refl ((rows_lawful k N 𝓛).typed acc _ isa).0) $
           owned ! (Rows k N) (Is (Rows k N)) (rows_makes k N 𝓛) acc _ isa $ use1 𝓛 (raw ((TableOf 𝓛).pre (to_table acc))) (goes_table acc) $
           calls_at ! fm (TableOf 𝓛) known-table (to_table acc) (and_then ! (load ! (from ! (stop !)) (look ! 11 refl)) (no_more !)) (λ w.
-          use1 𝓛 (later (some (λ (tab : Table). (‵ ftrue ⊛ ‵ ((R t).own tab (w ∷ []))) ⊛ raw (ensured 𝓛 table_ended (table_clauses 𝓤) tt (acc, tt) tt tab)))) (id⊢ 𝓤 _) $ await ! tt $ pick ! (λ tab.
+          use1 𝓛 (later (some (λ (tab : Table). (‵ ftrue ⊛ ‵ ((R t).own_val tab (w ∷ []))) ⊛ raw (ensured 𝓛 table_ended (table_clauses 𝓤) tt (acc, tt) tt tab)))) (id⊢ 𝓤 _) $ await ! tt $ pick ! (λ tab.
           split ! $ move ! (1 ∷ []) $ use1 𝓛 (raw (fact 𝓤 (rows tab ≡ acc))) (table_said acc tab) $ heard ! (rows tab ≡ acc) (λ et. split ! $ drop ! $
           peeks ! (R t) (Is (R t)) (shows 𝓛 (R t)) tab (w ∷ []) (λ ist.
           land ! (from ! (stop !)) (init ! 19 refl ((lawful t 𝓛).typed tab _ ist).0) $
@@ -314,7 +316,7 @@ module _ (k : Kind) (d : k.type.D) (t : Kind) (rows : t.type.D → List k.type.D
           assigns ! (of_opd ! (load ! (from ! (fld ! refl (stop !))) (look_in ! 16 (sub ! 1 refl (whole !))))) (from ! (stop !)) (init ! 8 refl (tt, record { fits = room.0 })) $
           assigns ! (bin ! (load ! (from ! (stop !)) (look ! 12 refl)) (load ! (from ! (stop !)) (look ! 8 refl)) tt) (from ! (stop !)) (init ! 6 refl (tt, tt)) $
           rewrite ! 6 (λ (z : Bool). ‵ (fat full_share ty_bool l₆ 0 (vbool z))) e refl $ leaves_loop ! (load ! (from ! (stop !)) (look ! 6 refl)) $ exec ! C Λ En t_4 (at_ret En Post) $
-          move ! (14 ∷ []) $ use1 𝓛 (‵ (fat full_share arr l₂ 0 (rows_val k N acc)) ⊛ ‵ ((Rows k N).own acc (rows_val k N acc ∷ []))) (rows_whole k N 𝓛 acc l₂ x.1.1.1.0) $ split ! $ move ! (1 ∷ []) $
+          move ! (14 ∷ []) $ use1 𝓛 (‵ (fat full_share arr l₂ 0 (rows_val k N acc)) ⊛ ‵ ((Rows k N).own_val acc (rows_val k N acc ∷ []))) (rows_whole k N 𝓛 acc l₂ x.1.1.1.0) $ split ! $ move ! (1 ∷ []) $
           peeks ! (Rows k N) (Is (Rows k N)) (shows 𝓛 (Rows k N)) acc (rows_val k N acc ∷ []) (λ isa. drop ! $
           keep ! (1 ∷ 2 ∷ 3 ∷ 4 ∷ 5 ∷ 6 ∷ 7 ∷ 8 ∷ 9 ∷ 10 ∷ 11 ∷ 12 ∷ 13 ∷ 14 ∷ 0 ∷ 15 ∷ 16 ∷ 17 ∷ 18 ∷ 19 ∷ 20 ∷ 21 ∷ []) $ closes x over isa)
         where
@@ -346,7 +348,7 @@ module _ (k : Kind) (d : k.type.D) (t : Kind) (rows : t.type.D → List k.type.D
           move ! (21 ∷ []) $ fsplit ! $ keep ! (2 ∷ 3 ∷ 4 ∷ 5 ∷ 6 ∷ 7 ∷ 8 ∷ 9 ∷ 10 ∷ 11 ∷ 12 ∷ 13 ∷ 14 ∷ 15 ∷ 16 ∷ 17 ∷ 18 ∷ 19 ∷ 20 ∷ 21 ∷ 22 ∷ 0 ∷ []) $
           use0 𝓛 (raw ((Blank 𝓛).pre to_blank)) goes_blank $
           calls_at ! fm (Blank 𝓛) known-blank to_blank (no_more !) (λ w.
-          use1 𝓛 (later (some (λ (bs : List Row). (‵ ftrue ⊛ ‵ ((Rows k N).own bs (w ∷ []))) ⊛ raw (ensured 𝓛 blank_ended (blank_clauses 𝓤) tt tt tt bs)))) (id⊢ 𝓤 _) $ await ! tt $ pick ! (λ bs.
+          use1 𝓛 (later (some (λ (bs : List Row). (‵ ftrue ⊛ ‵ ((Rows k N).own_val bs (w ∷ []))) ⊛ raw (ensured 𝓛 blank_ended (blank_clauses 𝓤) tt tt tt bs)))) (id⊢ 𝓤 _) $ await ! tt $ pick ! (λ bs.
           split ! $ move ! (1 ∷ []) $ use1 𝓛 (raw (fact 𝓤 (bs ≡ blank))) (blank_said bs) $ heard ! (bs ≡ blank) (λ eb. split ! $ drop ! $ peeks ! (Rows k N) (Is (Rows k N)) (shows 𝓛 (Rows k N)) bs (w ∷ []) (λ isb.
           land ! (from ! (stop !)) (init ! 11 refl ((rows_lawful k N 𝓛).typed bs _ isb).0) $
           rewrite ! 11 (λ (z : Val). ‵ (fat full_share (by_vals k N) l₄ 0 z)) (rows_val_is k N bs w isb) refl $ drop ! $

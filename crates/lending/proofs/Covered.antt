@@ -11,7 +11,7 @@ use mathlib.Core.List.{List, [], ◌∷◌}
 use lib.Dec.{T}
 use Rattle.lending.proofs.Walk.{Ura, Name, Ty, Body, w8, w64, ty_bool, ty_int, seq, assign, call, place, field, copy, rv_opd, Val, vint, vbool, WT, has_ty, ent, emp, id⊢, ex_e, snd∗, ftrue, Env, Calls, Loops, sem, fact, Lfts, Item, Post, Seq, runs, ‵, raw, ◌⊛◌, some, later, ◌$◌, ◌∵◌, !, qed, move, drop, use0, use1, split, join, pick, await, fjoin, frame, done, whole, sub, Opds, stop, fld, load, no_more, and_then, of_opd, assigns, FmC, RattleType, Denots, Valss, owns, flat, Is, Tells, Boolean, uint_Makes, uint_Tells, uint_Lawful, bool_Tells, bool_Lawful, u8, usize, slice_ty, slice_val, types_at, plain, nothing, owned, heard, calls_at, Ended, Clauses, closing, ensured, lasts, Kepts, triple_of, Contract, Triple, yes}
 use mir.Syntax.{Opd as Operand}
-use types.Logic.{Logic, sem}
+use types.Logic.{Logic}
 use denote.Signature.{Slot as Param}
 use Rattle.lending.proofs.Says.{saying}
 use Rattle.lending.proofs.Kind.{Kind, R, by_val, val, vals, tells, makes, lawful}
@@ -47,7 +47,7 @@ module _ (ps : List (Param 0)) (ks : Kepts ps) (S : RattleType) (Said : (κs : L
     asks _ fm known τ mach tell typed nd owed read goes = stated (
         use0 𝓛 (raw ((Answers 𝓛).pre to_answer)) (goes_answer owed) $
         calls_at ! fm (Answers 𝓛) known to_answer (record { go = (read (raw ((Answers 𝓛).pre to_answer))).go }) (λ w.
-        use1 𝓛 (later (some (λ (y : S.Denot). (‵ ftrue ⊛ ‵ (S.own y (w ∷ []))) ⊛ raw (ensured 𝓛 answering (answer_clauses 𝓤) tt xs tt y)))) (id⊢ 𝓤 _) $
+        use1 𝓛 (later (some (λ (y : S.Denot). (‵ ftrue ⊛ ‵ (S.own_val y (w ∷ []))) ⊛ raw (ensured 𝓛 answering (answer_clauses 𝓤) tt xs tt y)))) (id⊢ 𝓤 _) $
         await ! tt $ pick ! (λ y.
         split ! $ move ! (1 ∷ []) $ use1 𝓛 (raw (fact 𝓤 (Said tt xs y))) (answer_said y) $ heard ! (Said tt xs y) (λ e. split ! $ drop ! $
         lands_as ! τ S mach tell typed y nd (λ is. premise (goes y e is))))))

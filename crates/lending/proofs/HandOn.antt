@@ -4,30 +4,30 @@
 --     Sees, sees       the slice, which is lent as `&` already, goes to a call with other values ps, and comes back (`Share.antt`)
 --     Takes, gives     the slice is given up to a call, with other values ps, which says its last list
 -- Assumes `Logic`.
-use types.Logic.{Logic, sem}
+use types.Logic.{Logic}
 use denote.Ref.{Bor, MutBor}
 use mathlib.Core.Path.{◌≡◌}
 use Prim.Native.Nat.{ℕ}
 use mathlib.Core.List.{List, [], ◌∷◌}
 use lib.ListN.{length}
 use lib.Dec.{T}
-use Rattle.lending.proofs.Walk.{Ura, full_share, Name, Ty, Lifetime, Body, named, erased, mut, ty_unit, ty_ref, seq, assign, call, place, field, deref, copy, addr_of, aggregate, Val, vptr, WT, has_ty, SProp, ent, sep, emp, id⊢, ex_e, snd∗, Lft, GName, Share, Fml, ftrue, flft, fres, Env, Calls, Loops, sem, fact, Lfts, Item, Post, Seq, runs, ‵, raw, ◌⊛◌, some, later, ◌$◌, ◌∵◌, !, qed, move, keep, drop, use0, use1, use2, split, join, pick, await, fsplit, fjoin, feq_l, frame, done, Opds, stop, land, lft_new, lft_end, FmC, RattleType, Denots, Valss, owns, flat, Is, Tells, shows, Nothing, Nothing-Lawful, SliceRefOf, SliceRefMutOf, RefT, name, slice_ty, slice_val, MutSlice, ShrSlice, Room, finally, res-finally, coded_holeys, heres, types_at, plain, nothing, peeks, heard, calls_at, Ended, Clauses, closing, ensured, lasts, Kepts, Fins, triple_of, Contract, Triple, says, yes}
+use Rattle.lending.proofs.Walk.{Ura, full_share, Name, Ty, Lifetime, Body, named, erased, mut, ty_unit, ty_ref, seq, assign, call, place, field, deref, copy, addr_of, aggregate, Val, vptr, WT, has_ty, SProp, ent, sep, emp, id⊢, ex_e, snd∗, Lft, GName, Share, Fml, ftrue, flft, fres, Env, Calls, Loops, sem, fact, Lfts, Item, Post, Seq, runs, ‵, raw, ◌⊛◌, some, later, ◌$◌, ◌∵◌, !, qed, move, keep, drop, use0, use1, use2, split, join, pick, await, fsplit, fjoin, feq_l, frame, done, Opds, stop, land, lft_new, lft_end, FmC, RattleType, Denots, Valss, owns, flat, Is, Tells, shows, Nothing, Nothing-Lawful, SliceRefOf, SliceRefMutOf, slice_ty, slice_val, MutSlice, ShrSlice, Room, finally, res-finally, coded_holeys, heres, types_at, plain, nothing, peeks, heard, calls_at, Ended, Clauses, closing, ensured, lasts, Kepts, Fins, triple_of, Contract, Triple, says, yes}
 use mir.Syntax.{Opd as Operand}
 use denote.Signature.{Slot as Param}
 use Rattle.lending.proofs.Share.{SharedAgain, shares_again, share_back}
 use Rattle.lending.proofs.Says.{saying}
-use Rattle.lending.proofs.Kind.{Kind, R, ref}
+use Rattle.lending.proofs.Kind.{Kind, R, ref, copied}
 use Rattle.lending.proofs.Locals.{Slot, has, slot, put, Typed, Locals, spot, sets, stated, premise, relends, lands_as}
 
-abbrev pub v : {X : Type 0} → Bor (List X) → Val
+abbrev pub v : {X : Type 0} → MutBor (List X) → Val
 v x = slice_val x.ref_ptr (length x.now)
 
 module _ {M : Type 1} {𝓤 : Ura M} (𝓛 : Logic 𝓤) where
-  pub gives_up : (S : RattleType) (j : ℕ) (κ : Lft) (x : MutBor (List S.Denot)) (u : Val) → ent 𝓤 (sem 𝓛 ((MutSlice (named j) κ S).own_val x (u ∷ []))) (sem 𝓛 (finally S (name x) x.now))
+  pub gives_up : (S : RattleType) (j : ℕ) (κ : Lft) (x : MutBor (List S.Denot)) (u : Val) → ent 𝓤 (sem 𝓛 ((MutSlice (named j) κ S).own_val x (u ∷ []))) (sem 𝓛 (finally S x.ghost_name x.now))
   gives_up S j κ x u =
       qed 𝓛 (‵ ((MutSlice (named j) κ S).own_val x (u ∷ [])) ∷ []) ∵ fsplit ! $ move ! (1 ∷ []) $ fsplit ! $
-      use1 𝓛 (‵ (fres (name x) ((coded_holeys S).code (heres S x.now)))) (𝓛.names.obs-res (name x) ((coded_holeys S).code (heres S x.now))) $
-      use1 𝓛 (‵ (finally S (name x) x.now)) (res-finally 𝓛 (named j) κ S (name x) x.now) $ keep ! (0 ∷ []) $ done !
+      use1 𝓛 (‵ (fres x.ghost_name ((coded_holeys S).code (heres S x.now)))) (𝓛.names.obs-res x.ghost_name ((coded_holeys S).code (heres S x.now))) $
+      use1 𝓛 (‵ (finally S x.ghost_name x.now)) (res-finally 𝓛 (named j) κ S x.ghost_name x.now) $ keep ! (0 ∷ []) $ done !
 
 module _ (k : Kind) {M : Type 1} (𝓤 : Ura M) (ps : List (Param 1)) (ks : Kepts ps) (S : RattleType) (Asks : (κs : Lfts 1) → List k.type.D → Denots (types_at ps κs) → SProp 𝓤)
     (Said : (κs : Lfts 1) → List k.type.D → Denots (types_at ps κs) → S.Denot → Type 0) where
@@ -40,7 +40,7 @@ module _ (k : Kind) {M : Type 1} (𝓤 : Ura M) (ps : List (Param 1)) (ks : Kept
   abbrev pub Sees : (𝓛 : Logic 𝓤) → Contract 𝓤
   Sees 𝓛 = triple_of 𝓛 seeing.signature (closing 𝓛 seeing see_clauses)
 
-module _ (k : Kind) (ps : List (Param 1)) (ks : Kepts ps) (Asks : (κs : Lfts 1) → Bor (List k.type.D) × Denots (types_at ps κs) → Type 0) (after : (κs : Lfts 1) → Bor (List k.type.D) × Denots (types_at ps κs) → List k.type.D) where
+module _ (k : Kind) (ps : List (Param 1)) (ks : Kepts ps) (Asks : (κs : Lfts 1) → MutBor (List k.type.D) × Denots (types_at ps κs) → Type 0) (after : (κs : Lfts 1) → MutBor (List k.type.D) × Denots (types_at ps κs) → List k.type.D) where
   abbrev taking : Ended
   taking = record { signature = record { lifetimes = 1; outlives = []; params = SliceRefMutOf (0 ∷ []) tt (plain (λ _. R k)) (λ _. tt) ∷ ps; result = plain (λ _. Nothing) }; kept = (yes, ks) }
 
@@ -59,6 +59,9 @@ module _ (k : Kind) {M : Type 1} {𝓤 : Ura M} (𝓛 : Logic 𝓤) (ℓ : Lifet
 
   abbrev x : GName → MutBor (List Row)
   x δ = record { ref_ptr = (b, o); ghost_name = δ; now = ys }
+
+  abbrev shared : Bor (List Row)
+  shared = record { ref_ptr = (b, o); now = ys }
 
   abbrev s : Val
   s = slice_val (b, o) (length ys)
@@ -89,20 +92,20 @@ module _ (k : Kind) {M : Type 1} {𝓤 : Ura M} (𝓛 : Logic 𝓤) (ℓ : Lifet
     abbrev loan : ℕ → Lfts 1
     loan ν = (ν ∷ [], tt)
 
-    abbrev Shared : ℕ → GName → Fml
-    Shared ν δ = (ShrSlice (named 0) (ν ∷ []) (R k)).own_val (x δ) (s ∷ [])
+    abbrev Shared : ℕ → Fml
+    Shared ν = (ShrSlice (named 0) (ν ∷ []) (R k)).own_val shared (s ∷ [])
 
-    abbrev to_see : ℕ → GName → S'.Ghost
-    to_see ν δ = ((loan ν, (full_share, tt), tt, (x δ, xs (loan ν)), (s ∷ [], vss (loan ν))), tt)
+    abbrev to_see : ℕ → S'.Ghost
+    to_see ν = ((loan ν, (full_share, tt), tt, (shared, xs (loan ν)), (s ∷ [], vss (loan ν))), tt)
 
-    goes_see : Owed → (ν : ℕ) (δ : GName) → ent 𝓤 (sep 𝓤 (A.lft (ν ∷ []) full_share) (sem 𝓛 (Shared ν δ))) (S'.pre (to_see ν δ))
-    goes_see owed ν δ =
-        qed 𝓛 (‵ (flft (ν ∷ []) full_share) ∷ ‵ (Shared ν δ) ∷ []) ∵ use0 𝓛 (raw (Asks (loan ν) ys (xs (loan ν)))) (owed.asked (loan ν)) $
+    goes_see : Owed → (ν : ℕ) → ent 𝓤 (sep 𝓤 (A.lft (ν ∷ []) full_share) (sem 𝓛 (Shared ν))) (S'.pre (to_see ν))
+    goes_see owed ν =
+        qed 𝓛 (‵ (flft (ν ∷ []) full_share) ∷ ‵ (Shared ν) ∷ []) ∵ use0 𝓛 (raw (Asks (loan ν) ys (xs (loan ν)))) (owed.asked (loan ν)) $
         use0 𝓛 (‵ (owns (types_at ps (loan ν)) (xs (loan ν)) (vss (loan ν)))) (owed.owned (loan ν)) $ move ! (3 ∷ 0 ∷ []) $ fjoin ! $
         nothing ! $ move ! (3 ∷ 0 ∷ []) $ join ! $ move ! (0 ∷ 1 ∷ []) $ join ! $ frame ! $ done !
 
-    see_said : (ν : ℕ) (δ : GName) (y : S.Denot) → ent 𝓤 (ensured 𝓛 seen seen_clauses (loan ν) (x δ, xs (loan ν)) tt y) (fact 𝓤 (Said (loan ν) ys (xs (loan ν)) y))
-    see_said ν δ y = ex_e 𝓤 _ (λ ws. snd∗ 𝓤 (sem 𝓛 (lasts seen (loan ν) (x δ, xs (loan ν)) ws)) (fact 𝓤 (Said (loan ν) ys (xs (loan ν)) y)))
+    see_said : (ν : ℕ) (y : S.Denot) → ent 𝓤 (ensured 𝓛 seen seen_clauses (loan ν) (shared, xs (loan ν)) tt y) (fact 𝓤 (Said (loan ν) ys (xs (loan ν)) y))
+    see_said ν y = ex_e 𝓤 _ (λ ws. snd∗ 𝓤 (sem 𝓛 (lasts seen (loan ν) (shared, xs (loan ν)) ws)) (fact 𝓤 (Said (loan ν) ys (xs (loan ν)) y)))
 
     pub sees : {K : Type 0} → K → {Γ : List (Item 𝓤)} {E : Env 𝓤 H} {C : Calls 𝓤 H} {Λ : Loops 𝓤 H} {Q : Post 𝓤 H} {ss : List Slot} {d : ℕ} {#see : Name} {os : List Operand} {rest : Body}
         → FmC 𝓤 H 𝓛.laws C → Triple 𝓤 (C #see) S' → (τ : Ty) (mach : S.Denot → Val) → Tells S (Is S) (λ y. mach y ∷ []) → ((y : S.Denot) → Is S y (mach y ∷ []) → T (has_ty τ (mach y)) × WT (mach y)) → Typed 𝓤 H E d τ → Owed
@@ -110,20 +113,20 @@ module _ (k : Kind) {M : Type 1} {𝓤 : Ura M} (𝓛 : Logic 𝓤) (ℓ : Lifet
         → ((κs : Lfts 1) (y : S.Denot) → Said κs ys (xs κs) y → Is S y (mach y ∷ []) → Seq K 𝓛 (Locals H E (put d (mach y) ss) ∷ ‵ Own ∷ ‵ (flft κ q) ∷ Γ) (runs C Λ E rest Q))
         → Seq K 𝓛 (Locals H E ss ∷ ‵ Own ∷ ‵ (flft κ q) ∷ Γ) (runs C Λ E (seq (call #see os (place d [])) rest) Q)
     sees _ fm known τ mach tell typed nd owed read goes = stated (
-        lft_new ! tt (λ ν. move ! (2 ∷ 3 ∷ []) $
-        use2 𝓛 (later (some (λ (δ : GName). ‵ (Shared ν δ) ⊛ ‵ (SharedAgain (R k) κ (ν ∷ []) q γ b o ys)))) (shares_again (R k) κ (ν ∷ []) q γ b o 𝓛 ℓ (named 0) ys) $
-        await ! tt $ pick ! (λ δ. split ! $ move ! (2 ∷ 0 ∷ []) $ use2 𝓛 (raw (S'.pre (to_see ν δ))) (goes_see owed ν δ) $
+        lft_new ! tt (λ ν. move ! (2 ∷ 3 ∷ 0 ∷ []) $ move ! (1 ∷ 2 ∷ []) $ join ! $ move ! (1 ∷ 0 ∷ []) $
+        use2 𝓛 (later (‵ (Shared ν) ⊛ (‵ (SharedAgain (R k) κ (ν ∷ []) q γ b o ys) ⊛ ‵ (flft (ν ∷ []) full_share)))) (shares_again (R k) κ (ν ∷ []) q γ b o 𝓛 ℓ (named 0) ys (copied k 𝓛) room full_share) $
+        await ! tt $ split ! $ move ! (1 ∷ []) $ split ! $ move ! (1 ∷ 2 ∷ []) $ use2 𝓛 (raw (S'.pre (to_see ν))) (goes_see owed ν) $
         -- [the precondition; what is kept; the locals; …]
-        calls_at ! fm S' known (to_see ν δ) (record { go = (read (raw (S'.pre (to_see ν δ))) (‵ (SharedAgain (R k) κ (ν ∷ []) q γ b o ys)) (loan ν)).go }) (λ w.
-        use1 𝓛 (later (some (λ (y : S.Denot). ((‵ (flft (ν ∷ []) full_share) ⊛ ‵ ftrue) ⊛ ‵ (S.own y (w ∷ []))) ⊛ raw (ensured 𝓛 seen seen_clauses (loan ν) (x δ, xs (loan ν)) tt y)))) (id⊢ 𝓤 _) $
+        calls_at ! fm S' known (to_see ν) (record { go = (read (raw (S'.pre (to_see ν))) (‵ (SharedAgain (R k) κ (ν ∷ []) q γ b o ys)) (loan ν)).go }) (λ w.
+        use1 𝓛 (later (some (λ (y : S.Denot). ((‵ (flft (ν ∷ []) full_share) ⊛ ‵ ftrue) ⊛ ‵ (S.own_val y (w ∷ []))) ⊛ raw (ensured 𝓛 seen seen_clauses (loan ν) (shared, xs (loan ν)) tt y)))) (id⊢ 𝓤 _) $
         await ! tt $ pick ! (λ y.
-        split ! $ move ! (1 ∷ []) $ use1 𝓛 (raw (fact 𝓤 (Said (loan ν) ys (xs (loan ν)) y))) (see_said ν δ y) $ heard ! (Said (loan ν) ys (xs (loan ν)) y) (λ e. split ! $ split ! $
+        split ! $ move ! (1 ∷ []) $ use1 𝓛 (raw (fact 𝓤 (Said (loan ν) ys (xs (loan ν)) y))) (see_said ν y) $ heard ! (Said (loan ν) ys (xs (loan ν)) y) (λ e. split ! $ split ! $
         -- [the loan's token; …; what the answer owns; what is kept; the locals; …]
         lft_end ! tt $ move ! (0 ∷ 3 ∷ []) $
         use2 𝓛 (later (‵ Own ⊛ ‵ (flft κ q))) (share_back (R k) κ (ν ∷ []) q γ b o 𝓛 ℓ (named 0) ys room) $ await ! tt $ split ! $
-        move ! (2 ∷ []) $ drop ! $ move ! (2 ∷ 3 ∷ []) $ lands_as ! τ S mach tell typed y nd (λ is. premise (goes (loan ν) y e is))))))))
+        move ! (2 ∷ []) $ drop ! $ move ! (2 ∷ 3 ∷ []) $ lands_as ! τ S mach tell typed y nd (λ is. premise (goes (loan ν) y e is)))))))
 
-  module _ (ps : List (Param 1)) (ks : Kepts ps) (Asks : (κs : Lfts 1) → Bor (List Row) × Denots (types_at ps κs) → Type 0) (after : (κs : Lfts 1) → Bor (List Row) × Denots (types_at ps κs) → List Row)
+  module _ (ps : List (Param 1)) (ks : Kepts ps) (Asks : (κs : Lfts 1) → MutBor (List Row) × Denots (types_at ps κs) → Type 0) (after : (κs : Lfts 1) → MutBor (List Row) × Denots (types_at ps κs) → List Row)
       (xs : Denots (types_at ps (κ, tt))) (vss : Valss (types_at ps (κ, tt))) where
     abbrev G : Contract 𝓤
     G = Takes k ps ks Asks after 𝓛
@@ -152,10 +155,10 @@ module _ (k : Kind) {M : Type 1} {𝓤 : Ura M} (𝓛 : Logic 𝓤) (ℓ : Lifet
     gives _ {d = d} fm known nj na nc nd hj hj' asks owed read goes = stated (
         relends ! ℓ mut (ref k) nj na nc hj hj' room.0 $ move ! (2 ∷ 1 ∷ []) $ use2 𝓛 (raw (G.pre to_take)) (goes_take asks owed) $
         calls_at ! fm G known to_take (record { go = (read (raw (G.pre to_take))).go }) (λ u.
-        use1 𝓛 (later (some (λ (z : Unit {0}). ((‵ (flft κ q) ⊛ ‵ ftrue) ⊛ ‵ (Nothing.own z (u ∷ []))) ⊛ raw (ensured 𝓛 taken (take_clauses k ps ks Asks after 𝓤) (κ, tt) (x γ, xs) tt z)))) (id⊢ 𝓤 _) $
+        use1 𝓛 (later (some (λ (z : Unit {0}). ((‵ (flft κ q) ⊛ ‵ ftrue) ⊛ ‵ (Nothing.own_val z (u ∷ []))) ⊛ raw (ensured 𝓛 taken (take_clauses k ps ks Asks after 𝓤) (κ, tt) (x γ, xs) tt z)))) (id⊢ 𝓤 _) $
         await ! tt $ pick ! (λ z. split ! $ move ! (1 ∷ []) $
         use1 𝓛 (some (λ (zs : List Row × Fins (κ, tt) ps ks xs). ‵ (lasts taken (κ, tt) (x γ, xs) zs) ⊛ raw (fact 𝓤 (zs.0 ≡ last)))) (id⊢ 𝓤 _) $
-        pick ! (λ zs. split ! $ move ! (1 ∷ []) $ heard ! (zs.0 ≡ last) (λ ez. fsplit ! $ fsplit ! $ move ! (1 ∷ []) $ feq_l ! (λ len.
+        pick ! (λ zs. split ! $ move ! (1 ∷ []) $ heard ! (zs.0 ≡ last) (λ ez. fsplit ! $ fsplit ! $ move ! (1 ∷ []) $ drop ! $ fsplit ! $ move ! (1 ∷ []) $ feq_l ! (λ len.
         -- [the last list; …; what is returned; the locals; …]
         move ! (2 ∷ []) $ split ! $ split ! $ move ! (2 ∷ []) $ peeks ! Nothing (Is Nothing) (shows 𝓛 Nothing) z (u ∷ []) (λ isu. drop ! $
         -- [the token; …; the last list; …; the locals; …]

@@ -2,6 +2,7 @@
 --     R, by_val, ref     its row, its MIR type where it is held by value, and as a reference to it names it
 --     val, vals        its machine value
 --     offset_fits      the offset of element i of a slice that has room fits a usize
+--     row_laws, copied    the laws of what a `&` to one holds, and of one that is Copy
 --     bound, silent    a function that takes one by value binds and says nothing of it at its exit
 -- Assumes nothing.
 use mathlib.Core.Path.{◌≡◌, refl, sym, subst}
@@ -11,8 +12,11 @@ use mathlib.Core.List.{List}
 use lib.Dec.{T, ltb, lit<}
 use Rattle.lending.proofs.Walk.{Ura, Ty, Val, ftrue, size, RattleType, Is, Tells, Makes, Lawful, Copy, Exit, Last, left, yes, pointee, Room, Plains, Declared, fields}
 use types.Logic.{Logic}
-use denote.Struct.Struct.{layout}
+use denote.RattleType.{RowLaws}
+use denote.Struct.Recorded.{Recorded-row_laws}
+use denote.Struct.Struct.{layout, Struct, Struct-row_laws}
 use denote.Struct.Declared.{shape, row}
+use denote.Copied.{Copied}
 use denote.Struct.Laws as LL
 
 pub record Kind : Type 2 where
@@ -50,6 +54,9 @@ module _ (k : Kind) where
   pub silent : (v : k.type.D) (f : Last (R.exit yes) v) → left (R.exit yes) v f ≡ ftrue
   silent v = subst (λ (e : Exit k.type.D). (f : Last e v) → left e v f ≡ ftrue) (sym (LL.still k.type k.copies yes)) (λ f. refl)
 
+  pub row_laws : RowLaws R
+  row_laws = Recorded-row_laws (Struct (shape k.type)) k.type.D k.type.to k.type.to_one (Struct-row_laws (shape k.type) (LL.copy_row_laws k.type.parts k.copies))
+
   module _ {M : Type 1} {𝓤 : Ura M} (𝓛 : Logic 𝓤) where
     pub makes : Makes 𝓛 R (Is R)
     makes = LL.makes k.type k.facts 𝓛
@@ -59,3 +66,6 @@ module _ (k : Kind) where
 
     pub copy : Copy 𝓛 R
     copy = LL.copy k.type k.copies 𝓛
+
+    pub copied : Copied 𝓛 R
+    copied = LL.copied k.type k.copies 𝓛

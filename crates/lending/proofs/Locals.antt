@@ -337,7 +337,7 @@ module _ {M : Type 1} {𝓤 : Ura M} {𝓛 : Logic 𝓤} {K : Type 0} {Γ : List
       (spot ! nc (stop !)) (sets ! c nc (tt, (tt, (record { fits = fits }, tt)))) $ premise s))
 
   pub lands_as : K → {d : ℕ} (τ : Ty) (S : RattleType) (val : S.Denot → Val) → Tells S (Is S) (λ x. val x ∷ []) → ((x : S.Denot) → Is S x (val x ∷ []) → T (has_ty τ (val x)) × WT (val x)) → (x : S.Denot) {w : Val} → Typed 𝓤 H E d τ
-      → (Is S x (val x ∷ []) → Seq K 𝓛 (Locals H E (put d (val x) ss) ∷ Γ) (runs C Λ E rest q)) → Seq K 𝓛 (‵ (S.own x (w ∷ [])) ∷ Locals H E ss ∷ Γ) (lands C Λ E (place d []) w rest q)
+      → (Is S x (val x ∷ []) → Seq K 𝓛 (Locals H E (put d (val x) ss) ∷ Γ) (runs C Λ E rest q)) → Seq K 𝓛 (‵ (S.own_val x (w ∷ [])) ∷ Locals H E ss ∷ Γ) (lands C Λ E (place d []) w rest q)
   lands_as t {d} τ S val tells typed x {w} n goes = stated (
       peeks ! S (Is S) (shows 𝓛 S) x (w ∷ []) (λ is. drop ! $
       subst (λ (u : Val). Sq 𝓛 (Locals H E ss ∷ Γ) (lands C Λ E (place d []) u rest q)) (sym (ap only (tells x (w ∷ []) is)))

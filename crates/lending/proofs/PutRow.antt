@@ -9,7 +9,7 @@ use Prim.Native.Nat.{ℕ, ◌*◌, ◌<◌, ◌^◌}
 use mathlib.Core.Bool.{Bool, true, cond as if}
 use mathlib.Core.List.{List, [], ◌∷◌}
 use lib.ListN.{length, set, length-set}
-use Rattle.lending.proofs.Walk.{Ura, full_share, Fn, Local, Body, named, mut, w64, ty_int, ty_bool, ty_ptr, ty_unit, ty_ref, local, value_local, skip, seq, assign, cond, return, place, field, deref, copy, int, opd_unit, rv_opd, op2, mul, unsigned, offset, Val, vunit, vbool, vint, vptr, SProp, ent, Lft, GName, Share, Fml, ftrue, flft, size, Env, Calls, Loops, Out, after_seq, at_return, Wp, WpFn, Tables, fact, Lfts, Item, ‵, ◌⊛◌, ⋆, runs, any_q, at_ret, Sq, ◌$◌, ◌∵◌, !, qed, by, move, drop, split, join, rewrite, fsplit, fjoin, feq_i, suffices, frame, done, whole, sub, store_raw, stop, hop, fld, from, load, lit, unit_lit, of_opd, bin, assigns, assigns_last, first, skips, branches, enter, params1, pass1, pass0, exec, WpFn-mono, owns, Is, shows, Nothing, Boolean, uint_vals, uint_Tells, bool_vals, bool_Tells, usize, SliceRefMutOf, RefT, slice_ty, slice_val, MutSlice, Room, at-slice, slice-vals, mut_slice_Tells, pure_l, pure_i, place_is, elem_out, elem_put, opens_slice, closes_slice, Signature, plain, nothing, owned, Ended, Clauses, AtExit, closing, Args, Res, on_entry, Meets, says, needs, Stays, stay_slice, stay_dropped, walk_of, Goes-slice, Goes-dropped, ends_at, walked, walk_Meets, yes}
+use Rattle.lending.proofs.Walk.{Ura, full_share, Fn, Local, Body, named, mut, w64, ty_int, ty_bool, ty_ptr, ty_unit, ty_ref, local, value_local, skip, seq, assign, cond, return, place, field, deref, copy, int, opd_unit, rv_opd, op2, mul, unsigned, offset, Val, vunit, vbool, vint, vptr, SProp, ent, Lft, GName, Share, Fml, ftrue, flft, size, Env, Calls, Loops, Out, after_seq, at_return, Wp, WpFn, Tables, fact, Lfts, Item, ‵, ◌⊛◌, ⋆, runs, any_q, at_ret, Sq, ◌$◌, ◌∵◌, !, qed, by, move, drop, split, join, rewrite, fsplit, fjoin, feq_i, suffices, frame, done, whole, sub, store_raw, stop, hop, fld, from, load, lit, unit_lit, of_opd, bin, assigns, assigns_last, first, skips, branches, enter, params1, pass1, pass0, exec, WpFn-mono, owns, Is, shows, Nothing, Boolean, uint_vals, uint_Tells, bool_vals, bool_Tells, usize, SliceRefMutOf, slice_ty, slice_val, MutSlice, Room, mut_slice_Tells, pure_l, pure_i, place_is, elem_out, elem_put, opens_slice, closes_slice, Signature, plain, nothing, owned, Ended, Clauses, AtExit, closing, Args, Res, on_entry, Meets, says, needs, Stays, stay_slice, stay_dropped, walk_of, Goes-slice, Goes-dropped, ends_at, walked, walk_Meets, yes}
 use types.Run.{returns}
 use denote.Triple.Walked.{Walks}
 use Rattle.lending.proofs.Arms.{is_true, is_false}
@@ -54,7 +54,7 @@ module _ (k : Kind) where
   locals = local ty_unit value_local ∷ local (slice_ty (ty_ref (named 0) mut (ref k))) value_local ∷ local ty_bool value_local ∷ local (ty_int w64) value_local ∷ local (by_val k) value_local ∷ local ty_bool value_local ∷ local (ty_int w64) value_local ∷ local ty_ptr value_local ∷ []
 
   abbrev function : Fn
-  function = record { lifetimes = 1; outlives = []; params = 4; body = t_1; locals = locals }
+  function = record { lifetimes = 1; outlives = []; ty_params = []; givens = 0; params = 4; body = t_1; locals = locals }
 
   abbrev stayed : Stays ended.signature.params ended.kept
   stayed = (stay_slice (0 ∷ []) tt (plain (λ _. R k)), (stay_dropped (plain (λ _. Boolean)) yes, (stay_dropped (plain (λ _. usize)) yes, (stay_dropped (plain (λ _. R k)) yes, tt))))

@@ -7,12 +7,12 @@ use mathlib.Core.Path.{◌≡◌, refl, sym}
 use Prim.Native.Nat.{ℕ, ◌<◌, ◌^◌}
 use mathlib.Core.List.{List, [], ◌∷◌}
 use lib.ListN.{length, get_or}
-use Rattle.lending.proofs.Walk.{Ura, full_share, Fn, Body, named, imm, w64, ty_int, ty_ptr, ty_ref, local, value_local, seq, assign, return, place, field, deref, int, rv_opd, op2, mul, unsigned, offset, Val, vint, vptr, SProp, ent, Lft, GName, Share, ftrue, fat, flft, size, Calls, Loops, WpFn, Tables, fact, Lfts, ‵, ◌⊛◌, ⋆, ◌$◌, ◌∵◌, !, qed, by, move, keep, split, join, rewrite, fsplit, fjoin, suffices, frame, done, whole, sub, look_in, look, look_raw, init, forget, stop, hop, fld, from, load, lit, of_opd, bin, assigns, enter, alloc1, alloc0, params1, pass1, pass0, free1, free0, WpFn-mono, owns, Is, shows, uint_vals, uint_Tells, usize, SliceRefOf, RefT, slice_ty, slice_val, ShrSlice, Room, slice-vals, shr_slice_Tells, place_is, elem_out, elem_back, looks_slice, shuts_slice, Signature, plain, nothing, owned, Ended, Clauses, AtExit, closing, Args, Res, Vals, on_entry, Meets, says, needs, Stays, stay_none_slice, stay_none, walk_of, Goes-none_slice, Goes-none, ends_at, walked, walk_Meets, yes}
-use mir.Syntax.{copy as copied}
+use Rattle.lending.proofs.Walk.{Ura, full_share, Fn, Body, named, imm, w64, ty_int, ty_ptr, ty_ref, local, value_local, seq, assign, return, place, field, deref, int, rv_opd, op2, mul, unsigned, offset, Val, vint, vptr, SProp, ent, Lft, GName, Share, ftrue, fat, flft, size, Calls, Loops, WpFn, Tables, fact, Lfts, ‵, ◌⊛◌, ⋆, ◌$◌, ◌∵◌, !, qed, by, move, keep, split, join, rewrite, fsplit, fjoin, suffices, frame, done, whole, sub, look_in, look, look_raw, init, forget, stop, hop, fld, from, load, lit, of_opd, bin, assigns, enter, alloc1, alloc0, params1, pass1, pass0, free1, free0, WpFn-mono, owns, Is, shows, uint_vals, uint_Tells, usize, SliceRefOf, slice_ty, slice_val, ShrSlice, Room, shr_slice_Tells, place_is, elem_out, elem_back, looks_slice, shuts_slice, Signature, plain, nothing, owned, Ended, Clauses, AtExit, closing, Args, Res, Vals, on_entry, Meets, says, needs, Stays, stay_none_slice, stay_none, walk_of, Goes-none_slice, Goes-none, ends_at, walked, walk_Meets, yes}
+use mir.Syntax.{copy as reads}
 use types.Run.{returns}
 use denote.Triple.Walked.{Walks}
 use Rattle.lending.proofs.Says.{Ensures, asking, saying, Tells, says_so}
-use Rattle.lending.proofs.Kind.{Kind, R, by_val, ref, val, vals, tells, offset_fits, makes, lawful, copy}
+use Rattle.lending.proofs.Kind.{Kind, R, by_val, ref, val, vals, tells, offset_fits, makes, lawful, copied}
 
 module _ (k : Kind) (d : k.type.D) where
   abbrev Row : Type 0
@@ -35,13 +35,15 @@ module _ (k : Kind) (d : k.type.D) where
   clauses 𝓤 = saying 𝓤 ended (Asks 𝓤) Says
 
   abbrev body : Body
-  body = seq (assign (place 3 []) (op2 (mul unsigned) (copied (place 2 [])) (int w64 (size (by_val k))))) (seq (assign (place 4 []) (op2 offset (copied (place 1 (field 0 ∷ []))) (copied (place 3 []))))
-      (seq (assign (place 5 []) (rv_opd (copied (place 4 (deref (by_val k) ∷ []))))) (seq (assign (place 0 []) (rv_opd (copied (place 5 [])))) return)))
+  body = seq (assign (place 3 []) (op2 (mul unsigned) (reads (place 2 [])) (int w64 (size (by_val k))))) (seq (assign (place 4 []) (op2 offset (reads (place 1 (field 0 ∷ []))) (reads (place 3 []))))
+      (seq (assign (place 5 []) (rv_opd (reads (place 4 (deref (by_val k) ∷ []))))) (seq (assign (place 0 []) (rv_opd (reads (place 5 [])))) return)))
 
   abbrev pub function : Fn
   function = record {
     lifetimes = 1;
     outlives = [];
+    ty_params = [];
+    givens = 0;
     params = 2;
     body = body;
     locals = local (by_val k) value_local ∷ local (slice_ty (ty_ref (named 0) imm (ref k))) value_local ∷ local (ty_int w64) value_local ∷ local (ty_int w64) value_local ∷ local ty_ptr value_local ∷ local (by_val k) value_local ∷ [];
@@ -85,16 +87,16 @@ module _ (k : Kind) (d : k.type.D) where
           assigns ! (bin ! (load ! (from ! (stop !)) (look ! 6 refl)) (lit ! k.small) (record { fits = offset_fits k i (length ys) l gn })) (from ! (stop !)) (init ! 4 refl (tt, record { fits = offset_fits k i (length ys) l gn })) $
           assigns ! (bin ! (load ! (from ! (fld ! refl (stop !))) (look_in ! 8 (sub ! 0 refl (whole !)))) (load ! (from ! (stop !)) (look ! 4 refl)) tt) (from ! (stop !)) (init ! 2 refl (tt, tt)) $
           rewrite ! 2 (λ (p : ℕ). ‵ (fat full_share ty_ptr l₄ 0 (vptr b p))) (sym (place_is (size (by_val k)) o i)) refl $
-          move ! (13 ∷ []) $ fsplit ! $ fsplit ! $ move ! (1 ∷ []) $ fsplit ! $ move ! (16 ∷ []) $ split ! $ move ! (3 ∷ 0 ∷ []) $
-          looks_slice ! tt (R k) (Is (R k)) (shows 𝓛 (R k)) (vals k) (tells k) (copy k 𝓛) ys b o (λ q'.
+          move ! (13 ∷ []) $ fsplit ! $ fsplit ! $ move ! (1 ∷ []) $ move ! (15 ∷ []) $ split ! $ move ! (2 ∷ 0 ∷ []) $
+          looks_slice ! tt (R k) (copied k 𝓛) ys b o (λ q'.
           elem_out ! (R k) (Is (R k)) (shows 𝓛 (R k)) (vals k) (tells k) q' ys i d b o l (λ g.
-          -- [rows[i]; what it owns; the others; what shuts; the fractured borrow; true; res; rows's fact; i's; _5; …; _4; …; _3; …; _2; …; _1; …; _0; …]
-          assigns ! (of_opd ! (load ! (from ! (hop ! (look ! 11 refl) (stop !))) (look_raw ! 0 refl))) (from ! (stop !)) (init ! 9 refl ((lawful k 𝓛).typed elem _ g).0) $
-          assigns ! (of_opd ! (load ! (from ! (stop !)) (look ! 9 refl))) (from ! (stop !)) (init ! 19 refl ((lawful k 𝓛).typed elem _ g).0) $
+          -- [rows[i]; what it owns; the others; what shuts; the fractured borrow; true; rows's fact; i's; _5; …; _4; …; _3; …; _2; …; _1; …; _0; …]
+          assigns ! (of_opd ! (load ! (from ! (hop ! (look ! 10 refl) (stop !))) (look_raw ! 0 refl))) (from ! (stop !)) (init ! 8 refl ((lawful k 𝓛).typed elem _ g).0) $
+          assigns ! (of_opd ! (load ! (from ! (stop !)) (look ! 8 refl))) (from ! (stop !)) (init ! 18 refl ((lawful k 𝓛).typed elem _ g).0) $
           elem_back ! (R k) q' ys i d (mach ∷ []) b o l $ shuts_slice ! tt (R k) q' ys b o $
-          returns ! (look ! 16 refl) $ forget ! 6 refl $ forget ! 8 refl $ forget ! 10 refl $ forget ! 12 refl $ forget ! 14 refl $ forget ! 16 refl $
-          move ! (16 ∷ 17 ∷ []) $ free1 ! $ move ! (14 ∷ 15 ∷ []) $ free1 ! $ move ! (12 ∷ 13 ∷ []) $ free1 ! $ move ! (10 ∷ 11 ∷ []) $ free1 ! $ move ! (8 ∷ 9 ∷ []) $ free1 ! $ move ! (6 ∷ 7 ∷ []) $ free1 ! $ free0 ! $
-          move ! (3 ∷ 1 ∷ []) $ fjoin ! $ move ! (3 ∷ 0 ∷ []) $ fjoin ! $ move ! (3 ∷ []) $ fsplit ! $ keep ! (3 ∷ 2 ∷ 0 ∷ []) $ by ! (exits g)))))))))
+          returns ! (look ! 15 refl) $ forget ! 5 refl $ forget ! 7 refl $ forget ! 9 refl $ forget ! 11 refl $ forget ! 13 refl $ forget ! 15 refl $
+          move ! (15 ∷ 16 ∷ []) $ free1 ! $ move ! (13 ∷ 14 ∷ []) $ free1 ! $ move ! (11 ∷ 12 ∷ []) $ free1 ! $ move ! (9 ∷ 10 ∷ []) $ free1 ! $ move ! (7 ∷ 8 ∷ []) $ free1 ! $ move ! (5 ∷ 6 ∷ []) $ free1 ! $ free0 ! $
+          move ! (3 ∷ 1 ∷ []) $ fjoin ! $ move ! (3 ∷ []) $ fsplit ! $ keep ! (3 ∷ 2 ∷ 0 ∷ []) $ by ! (exits g)))))))))
 
   module _ {M : Type 1} {𝓤 : Ura M} (𝓛 : Logic 𝓤) where
     open 𝓛 use {H}

@@ -5,7 +5,7 @@
 --     more, writes     a turn that stores one row: it is read, and written
 --     ends, closes     the turn that leaves the loop, and the rest of the body
 -- Assumes nothing.
-use types.Logic.{Logic, sem}
+use types.Logic.{Logic}
 use denote.Slice.{mut_slice_vals, mut_slice_at}
 use denote.Ref.{MutBor}
 use mathlib.Core.Path.{◌≡◌, refl, sym, ◌∙◌, ap, subst}
@@ -19,7 +19,7 @@ use mathlib.Core.List.{List, [], ◌∷◌, ◌++◌}
 use lib.ListN.{length, get_or, set, take, drop as dropped, length-set}
 use lib.WfN.{lt-wf_rel}
 use lib.Dec.{T, ltb, ltb→lt, nltb→le, lit<}
-use Rattle.lending.proofs.Walk.{Ura, full_share, Name, Ty, Fn, Body, named, mut, w64, ty_int, ty_bool, ty_ptr, ty_unit, ty_ref, local, value_local, memory_slot, skip, seq, assign, block, loop, cond, exit, return, call, place, field, deref, copy, int, opd_unit, rv_opd, op2, lt, add, mul, unsigned, offset, addr_of, Val, vunit, vbool, vint, vptr, SProp, ent, emp, id⊢, ex_e, snd∗, Lft, GName, Share, Fml, ftrue, fat, froom, fdies, flft, fobs, fauth, fobor, size, Out, Env, after_seq, after_block, after_turn, Calls, Loops, Wp, at_return, WpFn, Tables, sem, fact, Lfts, Item, ‵, raw, ◌⊛◌, some, later, ⋆, runs, any_q, at_ret, Sq, ◌$◌, ◌∵◌, !, qed, by, move, keep, drop, use0, use1, use2, split, join, pick, await, rewrite, fsplit, fjoin, feq_i, suffices, frame, done, whole, sub, look_in, look, look_raw, store, store_raw, init, forget, stop, hop, fld, from, load, lit, unit_lit, no_more, and_then, of_opd, bin, addr, assigns, assigns_last, land, first, blocks, stays, leaves_loop, enter, alloc1, alloc0, params1, pass1, pass0, free1, free0, exec, Below, again, loops, FmC, fm_of, WpFn-mono, owns, Is, shows, Nothing, SliceRefMutOf, ArrayOf, RefT, slice_ty, slice_val, MutSlice, heres, Room, at-slice, coded_holeys, slice-vals, mut_slice_Tells, pure_l, pure_i, Held, place_is, elem_out, elem_back, elem_put, opens_slice, closes_slice, Signature, plain, nothing, owned, peeks, heard, calls_at, Ended, Clauses, AtExit, closing, ensured, lasts, Args, Res, on_entry, Meets, triple_of, Contract, Triple, says, needs, Stays, stay_slice, stay_none, walk_of, Goes-slice, Goes-none, ends_at, walked, walk_Meets, yes}
+use Rattle.lending.proofs.Walk.{Ura, full_share, Name, Ty, Fn, Body, named, mut, w64, ty_int, ty_bool, ty_ptr, ty_unit, ty_ref, local, value_local, memory_slot, skip, seq, assign, block, loop, cond, exit, return, call, place, field, deref, copy, int, opd_unit, rv_opd, op2, lt, add, mul, unsigned, offset, addr_of, Val, vunit, vbool, vint, vptr, SProp, ent, emp, id⊢, ex_e, snd∗, Lft, GName, Share, Fml, ftrue, fat, froom, fdies, flft, fobs, fauth, fobor, size, Out, Env, after_seq, after_block, after_turn, Calls, Loops, Wp, at_return, WpFn, Tables, sem, fact, Lfts, Item, ‵, raw, ◌⊛◌, some, later, ⋆, runs, any_q, at_ret, Sq, ◌$◌, ◌∵◌, !, qed, by, move, keep, drop, use0, use1, use2, split, join, pick, await, rewrite, fsplit, fjoin, feq_i, suffices, frame, done, whole, sub, look_in, look, look_raw, store, store_raw, init, forget, stop, hop, fld, from, load, lit, unit_lit, no_more, and_then, of_opd, bin, addr, assigns, assigns_last, land, first, blocks, stays, leaves_loop, enter, alloc1, alloc0, params1, pass1, pass0, free1, free0, exec, Below, again, loops, FmC, fm_of, WpFn-mono, owns, Is, shows, Nothing, SliceRefMutOf, ArrayOf, slice_ty, slice_val, MutSlice, heres, Room, coded_holeys, mut_slice_Tells, pure_l, pure_i, Held, place_is, elem_out, elem_back, elem_put, opens_slice, closes_slice, Signature, plain, nothing, owned, peeks, heard, calls_at, Ended, Clauses, AtExit, closing, ensured, lasts, Args, Res, on_entry, Meets, triple_of, Contract, Triple, says, needs, Stays, stay_slice, stay_none, walk_of, Goes-slice, Goes-none, ends_at, walked, walk_Meets, yes}
 use types.Run.{returns}
 use denote.Index.{row}
 use denote.Triple.Walked.{Walks}
@@ -78,6 +78,8 @@ module _ (k : Kind) (d : k.type.D) (t : Kind) (rows : t.type.D → List k.type.D
   function = record {
     lifetimes = 1;
     outlives = [];
+    ty_params = [];
+    givens = 0;
     params = 2;
     body = seq (call #rows-of (copy (place 2 []) ∷ []) (place 5 [])) t_2;
     locals = local ty_unit value_local ∷ local (slice_ty (ty_ref (named 0) mut (ref k))) value_local ∷ local (by_val t) value_local ∷ local (by_vals k N) memory_slot ∷ local (ty_int w64) value_local ∷ local (by_vals k N) value_local ∷ local (ty_int w64) value_local
@@ -297,7 +299,7 @@ module _ (k : Kind) (d : k.type.D) (t : Kind) (rows : t.type.D → List k.type.D
             assigns ! (of_opd ! (load ! (from ! (fld ! refl (stop !))) (look_in ! 22 (sub ! 1 refl (whole !))))) (from ! (stop !)) (init ! 12 refl (tt, record { fits = room.0 })) $
             assigns ! (bin ! (load ! (from ! (stop !)) (look ! 16 refl)) (load ! (from ! (stop !)) (look ! 12 refl)) tt) (from ! (stop !)) (init ! 10 refl (tt, tt)) $
             rewrite ! 10 (λ (y : Bool). ‵ (fat full_share ty_bool l₇ 0 (vbool y))) e refl $ leaves_loop ! (load ! (from ! (stop !)) (look ! 10 refl)) $ exec ! C Λ En t_3 (at_ret En Post) $
-            move ! (18 ∷ []) $ use1 𝓛 (‵ (fat full_share arr l₃ 0 (rows_val k N bs)) ⊛ ‵ ((Rows k N).own bs (rows_val k N bs ∷ []))) (rows_whole k N 𝓛 bs l₃ nb) $ split ! $ move ! (1 ∷ []) $ drop ! $
+            move ! (18 ∷ []) $ use1 𝓛 (‵ (fat full_share arr l₃ 0 (rows_val k N bs)) ⊛ ‵ ((Rows k N).own_val bs (rows_val k N bs ∷ []))) (rows_whole k N 𝓛 bs l₃ nb) $ split ! $ move ! (1 ∷ []) $ drop ! $
             -- [the array; _12 at 1; … _4 at 17; …; the slice's rows at 26; …]
             move ! (26 ∷ 27 ∷ 28 ∷ 29 ∷ []) $ closes_slice ! tt (R k) ys zs len b o $
             fjoin ! $ pure_i ! (mut_slice_at (R k) (x zs) (s ∷ [])) (tt, (tt, tt)) (ap (λ (m : ℕ). slice_val (b, o) m ∷ []) (sym len), subst (Room (R k)) (sym len) room) $ fjoin ! $
@@ -338,7 +340,7 @@ module _ (k : Kind) (d : k.type.D) (t : Kind) (rows : t.type.D → List k.type.D
           -- [what rows owns; the token; _12 at 2; … _0 at 26]
           use0 𝓛 (raw ((RowsOf 𝓛).pre to_rows_of)) goes_rows_of $
           calls_at ! fm (RowsOf 𝓛) known-rows-of to_rows_of (and_then ! (load ! (from ! (stop !)) (look ! 23 refl)) (no_more !)) (λ w.
-          use1 𝓛 (later (some (λ (bs : List Row). (‵ ftrue ⊛ ‵ ((Rows k N).own bs (w ∷ []))) ⊛ raw (ensured 𝓛 rows_of_ended (rows_of_clauses 𝓤) tt (tab, tt) tt bs)))) (id⊢ 𝓤 _) $ await ! tt $ pick ! (λ bs.
+          use1 𝓛 (later (some (λ (bs : List Row). (‵ ftrue ⊛ ‵ ((Rows k N).own_val bs (w ∷ []))) ⊛ raw (ensured 𝓛 rows_of_ended (rows_of_clauses 𝓤) tt (tab, tt) tt bs)))) (id⊢ 𝓤 _) $ await ! tt $ pick ! (λ bs.
           split ! $ move ! (1 ∷ []) $ use1 𝓛 (raw (fact 𝓤 (bs ≡ rows tab))) (rows_said bs) $ heard ! (bs ≡ rows tab) (λ eb. split ! $ drop ! $
           peeks ! (Rows k N) (Is (Rows k N)) (shows 𝓛 (Rows k N)) bs (w ∷ []) (λ isb.
           land ! (from ! (stop !)) (init ! 17 refl ((rows_lawful k N 𝓛).typed bs _ isb).0) $

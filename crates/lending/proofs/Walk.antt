@@ -3,7 +3,7 @@ pub use base.Fml.{Fml, GName, Lft, Share, fat, fauth, fdead, fdies, feq, flent, 
 pub use base.Logic.{SProp, all, all_e, all_i, apply∗, emp, emp∗, ent, ex, ex_e, fst∗, guard, guard_i, id⊢, mono_l, sep, snd∗, via, wand, wand_i}
 pub use contract.Lifetimes.{Lfts, Shares, toks}
 pub use contract.Monad.{Fun, Mono, fact, fact_use, fact_i}
-pub use contract.Running.{given_of, tables}
+pub use contract.Running.{tables}
 pub use denote.Array.{Array, Array-Lawful, Array-Makes, Array-Tells, array_vals}
 pub use denote.ArrayMemory.{Array-apart, Array-whole}
 pub use denote.Builtin.{ArrayOf, SliceRefMutOf, SliceRefOf, u16, u8, usize}
@@ -31,17 +31,18 @@ pub use denote.Triple.Statement.{Contract, Triple}
 pub use denote.Triple.Table.{cited, entered}
 pub use denote.Triple.Walked.{Stays, ends_at, gave_slice, Goes-dropped, Goes-gave_slice, Goes-none, Goes-none_slice, Goes-slice, needs, says, stay_dropped, stay_none, stay_none_slice, stay_slice, walk_Meets, walk_of, walked}
 pub use denote.Triple.Weaken.{weaken}
-pub use ghost.Atoms.{Atoms, sem}
-pub use seplogic.Ra.TreeShare.{full_share}
+pub use ghost.Atoms.{Atoms}
+pub use types.Logic.{sem}
+pub use base.Fraction.{full_share}
 pub use seplogic.Ra.Ura.{Ura}
-pub use mir.Syntax.{Body, Fn, Lifetime, Local, Mutability, Name, Ty, add, addr_of, aggregate, assign, block, call, cond, copy, deref, erased, exit, field, imm, int, local, loop, lt, memory_slot, mul, mut, named, offset, op2, opd_unit, place, return, rv_opd, seq, skip, ty_array, ty_bool, ty_int, ty_ptr, ty_ref, ty_unit, unsigned, value_local, w16, w64, w8}
+pub use mir.Syntax.{Body, Fn, Lifetime, Local, Mutability, Callee as Name, Ty, add, addr_of, aggregate, assign, block, call, cond, copy, deref, erased, exit, field, imm, int, local, loop, lt, memory_slot, mul, mut, named, offset, op2, opd_unit, place, return, rv_opd, seq, skip, ty_array, ty_bool, ty_int, ty_ptr, ty_ref, ty_unit, unsigned, value_local, w16, w64, w8}
 pub use mir.Val.{Val, WT, has_ty, of_list, vbool, vint, vptr, vstruct, vunit}
 pub use prog.Memory.{Memory, size}
 pub use prog.Routine.{Routine}
 pub use prog.Wp.{Calls, Env, Heap, Loops, Out, Spot, Tables, Wp, WpFn, after_block, after_seq, alloc, at_return, no_local, release}
 unfoldable pub use prog.Wp.{after_turn}
 pub use sound.WpLaws.{FmC, WpFn-mono, fm_of}
-pub use types.Kit.{ !, Given, Goal, Item, Post, Seq, Sq, ◌$◌, ◌∵◌, ◌⊛◌, aim, allocs, any_q, assume, at_ret, await, by, check, del, done, drop, each, feq_i, feq_l, fjoin, fpack, fpick, frame, frees, fsplit, given, join, keep, lands, later, learn, mean, move, nth, pick, pop, pull, push, qed, raw, rewrite, runs, show, some, split, step, suffices, unpull, updating, use0, use1, use2, ‵, ⋆}
+pub use types.Kit.{ !, Goal, Item, Post, Seq, Sq, ◌$◌, ◌∵◌, ◌⊛◌, aim, allocs, any_q, assume, at_ret, await, by, check, del, done, drop, each, feq_i, feq_l, fjoin, fpack, fpick, frame, frees, fsplit, given, join, keep, lands, later, learn, mean, move, nth, pick, pop, pull, push, qed, raw, rewrite, runs, show, some, split, step, suffices, unpull, updating, use0, use1, use2, ‵, ⋆}
 pub use types.Part.{Part, agg, look_in, sub, whole}
 pub use types.Run.{Below, Finds, Opds, Reads, Writes, addr, again, alloc0, alloc1, and_then, assigns, assigns_last, bin, blocks, branches, enter, exec, first, fld, forget, free0, free1, from, hop, init, land, leaves_loop, lit, load, look, look_raw, loops, no_more, of_opd, params1, pass0, pass1, returns_within, skips, stays, stop, store, store_raw, un, unit_lit}
 pub use types.Share.{arr_parts}

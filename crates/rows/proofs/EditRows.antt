@@ -5,7 +5,7 @@
 --     ends, tail       the turn that leaves the loop, and the rest of the body
 --     starts           the row is put, and the loop begins
 -- Assumes nothing.
-use types.Logic.{Logic, sem}
+use types.Logic.{Logic}
 use denote.Slice.{mut_slice_vals, mut_slice_at}
 use denote.Ref.{MutBor}
 use mathlib.Core.Path.{◌≡◌, refl, sym, ◌∙◌, ap, subst}
@@ -20,7 +20,7 @@ use mathlib.Core.List.{List, [], ◌∷◌}
 use lib.ListN.{length, get_or, set, length-set}
 use lib.WfN.{lt-wf_rel}
 use lib.Dec.{T, ltb, eqb, ltb→lt, nltb→le}
-use Rattle.lending.proofs.Walk.{Ura, full_share, Name, Local, Fn, Body, named, mut, w16, w64, ty_int, ty_bool, ty_ptr, ty_unit, ty_ref, local, value_local, skip, seq, assign, block, loop, cond, exit, return, call, place, field, deref, copy, int, opd_unit, rv_opd, op2, lt, add, mul, unsigned, offset, Val, vunit, vbool, vint, vptr, SProp, ent, emp, id⊢, ex_e, snd∗, Lft, GName, Share, Fml, ftrue, flft, fobs, fauth, fobor, size, Out, Env, after_seq, after_block, after_turn, Calls, Loops, Wp, at_return, WpFn, Tables, sem, fact, Lfts, Item, ‵, raw, ◌⊛◌, some, later, ⋆, runs, any_q, at_ret, Sq, ◌$◌, ◌∵◌, !, qed, by, move, drop, use0, use1, split, join, pick, await, rewrite, fsplit, fjoin, feq_i, suffices, frame, done, whole, sub, look_raw, store_raw, stop, hop, fld, from, load, lit, unit_lit, no_more, and_then, of_opd, bin, assigns, assigns_last, first, blocks, skips, branches, stays, leaves_loop, enter, params1, pass1, pass0, exec, Below, again, loops, FmC, fm_of, WpFn-mono, owns, Is, shows, Nothing, Boolean, uint_Makes, uint_vals, uint_Tells, uint_Lawful, bool_vals, bool_Tells, u16, usize, SliceRefMutOf, RefT, slice_ty, slice_val, MutSlice, heres, Room, at-slice, coded_holeys, slice-vals, mut_slice_Tells, pure_l, pure_i, Held, place_is, elem_out, elem_back, elem_put, opens_slice, closes_slice, Signature, plain, nothing, owned, heard, calls_at, Ended, Clauses, AtExit, closing, ensured, lasts, Args, Res, on_entry, Meets, triple_of, Contract, Triple, says, needs, Stays, stay_slice, stay_dropped, walk_of, Goes-slice, Goes-dropped, ends_at, walked, walk_Meets, yes}
+use Rattle.lending.proofs.Walk.{Ura, full_share, Name, Local, Fn, Body, named, mut, w16, w64, ty_int, ty_bool, ty_ptr, ty_unit, ty_ref, local, value_local, skip, seq, assign, block, loop, cond, exit, return, call, place, field, deref, copy, int, opd_unit, rv_opd, op2, lt, add, mul, unsigned, offset, Val, vunit, vbool, vint, vptr, SProp, ent, emp, id⊢, ex_e, snd∗, Lft, GName, Share, Fml, ftrue, flft, fobs, fauth, fobor, size, Out, Env, after_seq, after_block, after_turn, Calls, Loops, Wp, at_return, WpFn, Tables, sem, fact, Lfts, Item, ‵, raw, ◌⊛◌, some, later, ⋆, runs, any_q, at_ret, Sq, ◌$◌, ◌∵◌, !, qed, by, move, drop, use0, use1, split, join, pick, await, rewrite, fsplit, fjoin, feq_i, suffices, frame, done, whole, sub, look_raw, store_raw, stop, hop, fld, from, load, lit, unit_lit, no_more, and_then, of_opd, bin, assigns, assigns_last, first, blocks, skips, branches, stays, leaves_loop, enter, params1, pass1, pass0, exec, Below, again, loops, FmC, fm_of, WpFn-mono, owns, Is, shows, Nothing, Boolean, uint_Makes, uint_vals, uint_Tells, uint_Lawful, bool_vals, bool_Tells, u16, usize, SliceRefMutOf, slice_ty, slice_val, MutSlice, heres, Room, coded_holeys, mut_slice_Tells, pure_l, pure_i, Held, place_is, elem_out, elem_back, elem_put, opens_slice, closes_slice, Signature, plain, nothing, owned, heard, calls_at, Ended, Clauses, AtExit, closing, ensured, lasts, Args, Res, on_entry, Meets, triple_of, Contract, Triple, says, needs, Stays, stay_slice, stay_dropped, walk_of, Goes-slice, Goes-dropped, ends_at, walked, walk_Meets, yes}
 use types.Run.{returns}
 use denote.Index.{row}
 use denote.Triple.Walked.{Walks}
@@ -86,7 +86,7 @@ module _ (k : Kind) {Key : Type 0} {t : RowsOf k.type.D Key} (law : Lawful t) (#
       ∷ local ty_bool value_local ∷ local (ty_int w64) value_local ∷ local ty_ptr value_local ∷ local (ty_int w64) value_local ∷ local ty_bool value_local ∷ local (by_val k) value_local ∷ local ty_ptr value_local ∷ local (by_val k) value_local ∷ local (ty_int w64) value_local ∷ local ty_ptr value_local ∷ []
 
   abbrev function : Fn
-  function = record { lifetimes = 1; outlives = []; params = 5; body = t_1; locals = locals }
+  function = record { lifetimes = 1; outlives = []; ty_params = []; givens = 0; params = 5; body = t_1; locals = locals }
 
   abbrev stayed : Stays ended.signature.params ended.kept
   stayed = (stay_slice (0 ∷ []) tt (plain (λ _. R k)), (stay_dropped (plain (λ _. Boolean)) yes, (stay_dropped (plain (λ _. usize)) yes, (stay_dropped (plain (λ _. R k)) yes, (stay_dropped (plain (λ _. u16)) yes, tt)))))

@@ -4,7 +4,7 @@
 --     more, joins      a turn with one row: it is read, and joined
 --     ends             the turn that leaves the loop, and the rest of the body
 -- Assumes nothing.
-use types.Logic.{Logic, sem}
+use types.Logic.{Logic}
 use denote.Slice.{shr_slice_vals}
 use denote.Ref.{Bor}
 use mathlib.Core.Path.{◌≡◌, refl, sym, ◌∙◌, ap, subst}
@@ -18,7 +18,7 @@ use mathlib.Core.List.{List, [], ◌∷◌}
 use lib.ListN.{length, get_or, drop, drop_of_length-le}
 use lib.WfN.{lt-wf_rel}
 use lib.Dec.{T, eqb, ltb, ltb→lt, nltb→le}
-use Rattle.lending.proofs.Walk.{Ura, Name, Local, Fn, Body, named, imm, w64, ty_int, ty_bool, ty_ref, local, value_local, skip, seq, assign, block, loop, cond, exit, return, call, place, copy, int, rv_opd, op2, lt, add, unsigned, field, Val, vbool, vint, SProp, ent, emp, id⊢, via, ex_e, fst∗, snd∗, Lft, Share, Fml, ftrue, flft, Out, Env, after_seq, after_block, after_turn, Calls, Loops, Wp, at_return, WpFn, Tables, sem, fact, Lfts, Item, ‵, raw, ◌⊛◌, some, later, ⋆, runs, any_q, at_ret, Sq, ◌$◌, ◌∵◌, !, qed, by, move, use1, use2, split, pick, await, rewrite, fsplit, fjoin, suffices, frame, done, fld, stop, from, load, lit, no_more, and_then, of_opd, bin, assigns, assigns_last, first, blocks, stays, leaves_loop, enter, params1, pass1, pass0, exec, Below, again, loops, whole, sub, FmC, fm_of, WpFn-mono, owns, Is, Boolean, uint_vals, uint_Tells, uint_Makes, bool_Tells, bool_Lawful, bool_Makes, usize, SliceRefOf, RefT, slice_ty, slice_val, ShrSlice, Room, slice-vals, shr_slice_Tells, shr_slice_Lawful, shr_slice_copy, Signature, plain, nothing, owned, heard, calls_at, Ended, Clauses, AtExit, closing, ensured, lasts, Args, Res, on_entry, Meets, triple_of, Contract, Triple, says, Stays, stay_none_slice, stay_none, walk_of, Goes-none_slice, Goes-none, ends_at, walked, walk_Meets, yes}
+use Rattle.lending.proofs.Walk.{Ura, Name, Local, Fn, Body, named, imm, w64, ty_int, ty_bool, ty_ref, local, value_local, skip, seq, assign, block, loop, cond, exit, return, call, place, copy, int, rv_opd, op2, lt, add, unsigned, field, Val, vbool, vint, SProp, ent, emp, id⊢, via, ex_e, fst∗, snd∗, Lft, Share, Fml, ftrue, flft, Out, Env, after_seq, after_block, after_turn, Calls, Loops, Wp, at_return, WpFn, Tables, sem, fact, Lfts, Item, ‵, raw, ◌⊛◌, some, later, ⋆, runs, any_q, at_ret, Sq, ◌$◌, ◌∵◌, !, qed, by, move, use1, use2, split, pick, await, rewrite, fsplit, fjoin, suffices, frame, done, fld, stop, from, load, lit, no_more, and_then, of_opd, bin, assigns, assigns_last, first, blocks, stays, leaves_loop, enter, params1, pass1, pass0, exec, Below, again, loops, whole, sub, FmC, fm_of, WpFn-mono, owns, Is, Boolean, uint_vals, uint_Tells, uint_Makes, bool_Tells, bool_Lawful, bool_Makes, usize, SliceRefOf, slice_ty, slice_val, ShrSlice, Room, shr_slice_Tells, shr_slice_Lawful, shr_slice_copy, Signature, plain, nothing, owned, heard, calls_at, Ended, Clauses, AtExit, closing, ensured, lasts, Args, Res, on_entry, Meets, triple_of, Contract, Triple, says, Stays, stay_none_slice, stay_none, walk_of, Goes-none_slice, Goes-none, ends_at, walked, walk_Meets, yes}
 use types.Kit.{drop as discard}
 use types.Run.{returns}
 use denote.Triple.Walked.{Walks}
@@ -28,7 +28,7 @@ use Rattle.lists.proofs.Bools.{and_nil}
 use Rattle.rows.proofs.Bits.{blank_step}
 use Rattle.rows.specs.Unfit.{unfit}
 use Rattle.lending.proofs.Says.{Ensures, asking, saying, Tells, says_so}
-use Rattle.lending.proofs.Kind.{Kind, R, by_val, ref, val, tells, makes, lawful}
+use Rattle.lending.proofs.Kind.{Kind, R, by_val, ref, val, tells, row_laws, makes, lawful}
 use Rattle.lending.proofs.Locals.{Slot, free, has, Blocks, env_of, Locals, inside, sets, trims, frees_all, allocates, lands_as}
 use Rattle.lending.proofs.Covered.{Answers, asks}
 use Rattle.lending.proofs.RowAt as Ra
@@ -74,7 +74,7 @@ module _ (k b : Kind) {Key : Type 0} (t : RowsOf k.type.D Key) (clear : b.type.D
       ∷ local (by_val k) value_local ∷ local (ty_int w64) value_local ∷ []
 
   abbrev function : Fn
-  function = record { lifetimes = 1; outlives = []; params = 2; body = seq (call #none [] (place 3 [])) t_1; locals = locals }
+  function = record { lifetimes = 1; outlives = []; ty_params = []; givens = 0; params = 2; body = seq (call #none [] (place 3 [])) t_1; locals = locals }
 
   abbrev stayed : Stays ended.signature.params ended.kept
   stayed = (stay_none_slice (0 ∷ []) tt (plain (λ _. R k)) yes, (stay_none (λ _. usize) yes, tt))
@@ -112,7 +112,7 @@ module _ (k b : Kind) {Key : Type 0} (t : RowsOf k.type.D Key) (clear : b.type.D
 
     -- the machine value that s has
     abbrev v : Val
-    v = slice_val s.ptr (length ys)
+    v = slice_val s.ref_ptr (length ys)
 
     abbrev Post : Val → SProp 𝓤
     Post = (walk_of 𝓛 ended stayed (clauses 𝓤)).post (((κ, tt), (q, tt), tt, (s, (n, tt)), (v ∷ [], (vint w64 n ∷ [], tt))), tt)
@@ -196,10 +196,10 @@ module _ (k b : Kind) {Key : Type 0} (t : RowsOf k.type.D Key) (clear : b.type.D
             assigns ! (bin ! (load ! (from ! (stop !)) (inside ! 0 4 refl refl refl (whole !))) (load ! (from ! (stop !)) (inside ! 0 5 refl refl refl (whole !))) tt) (from ! (stop !)) (sets ! 6 refl (tt, tt)) $
             rewrite ! 0 (λ (z : Bool). Locals H En (free ∷ has v ∷ has (vint w64 n) ∷ has (val b x.1.0) ∷ has (vint w64 i) ∷ has (vint w64 (length ys)) ∷ has (vbool z) ∷ [])) e refl $ stays ! (load ! (from ! (stop !)) (inside ! 0 6 refl refl refl (whole !))) $
             -- a copy of what rows owns is passed
-            move ! (2 ∷ 1 ∷ []) $ use1 𝓛 (‵ Own ⊛ ‵ Own) ((shr_slice_copy 𝓛 (named 0) κ (R k)).twice s (v ∷ [])) $ split ! $ move ! (2 ∷ 0 ∷ []) $
+            move ! (2 ∷ 1 ∷ []) $ use1 𝓛 (‵ Own ⊛ ‵ Own) ((shr_slice_copy 𝓛 (named 0) κ (R k) (row_laws k)).twice s (v ∷ [])) $ split ! $ move ! (2 ∷ 0 ∷ []) $
             use2 𝓛 (raw ((RowAt 𝓛).pre (to_row_at i))) (goes_row_at i less) $
             calls_at ! fm (RowAt 𝓛) known-row-at (to_row_at i) (and_then ! (load ! (from ! (stop !)) (inside ! 2 1 refl refl refl (whole !))) (and_then ! (load ! (from ! (stop !)) (inside ! 2 4 refl refl refl (whole !))) (no_more !))) (λ u.
-            use1 𝓛 (later (some (λ (r : Row). ((‵ (flft κ q) ⊛ ‵ ftrue) ⊛ ‵ ((R k).own r (u ∷ []))) ⊛ raw (ensured 𝓛 (Ra.ended k t.blank) (Ra.clauses k t.blank 𝓤) (κ, tt) (s, (i, tt)) tt r)))) (id⊢ 𝓤 _) $ await ! tt $ pick ! (λ r.
+            use1 𝓛 (later (some (λ (r : Row). ((‵ (flft κ q) ⊛ ‵ ftrue) ⊛ ‵ ((R k).own_val r (u ∷ []))) ⊛ raw (ensured 𝓛 (Ra.ended k t.blank) (Ra.clauses k t.blank 𝓤) (κ, tt) (s, (i, tt)) tt r)))) (id⊢ 𝓤 _) $ await ! tt $ pick ! (λ r.
             split ! $ move ! (1 ∷ []) $ use1 𝓛 (raw (fact 𝓤 (r ≡ get_or ys i t.blank))) (row_said i r) $ heard ! (r ≡ get_or ys i t.blank) (λ er. split ! $
             -- [the token; what the row owns; what rows owns; the locals]
             move ! (1 ∷ 3 ∷ 0 ∷ []) $ lands_as ! (by_val k) (R k) (val k) (tells k) (λ z is. ((lawful k 𝓛).typed z _ is).0) r refl (λ isr. joins x r er isr less))))

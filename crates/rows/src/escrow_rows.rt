@@ -37,7 +37,7 @@ fn blank_escrow() -> [EscrowRow; 64]
     table.rows
 }
 
-// A table is made and taken apart by covered functions, so that the walks by hand need not look into one.
+// A table is made and taken apart by functions of their own.
 fn escrow_table(rows: [EscrowRow; 64]) -> EscrowTable
     ensures { result.rows ≡ rows }
 {
@@ -87,6 +87,7 @@ struct EscrowBits {
     marks: u64,
 }
 
+#[tactic(auto, unfolding(crate::specs::Unfit::escrow_clear))]
 fn no_escrow_bits() -> EscrowBits
     ensures { escrow_clear result ≡ true }
 {
@@ -99,6 +100,7 @@ fn no_escrow_bits() -> EscrowBits
     }
 }
 
+#[tactic(auto, using(crate::proofs::Bits::escrow_joined), unfolding(crate::specs::Unfit::escrow_clear))]
 fn with_escrow_row(bits: EscrowBits, row: EscrowRow) -> EscrowBits
     ensures { escrow_clear result ≡ escrow_clear bits && escrow_table.is_blank row }
 {
@@ -111,6 +113,7 @@ fn with_escrow_row(bits: EscrowBits, row: EscrowRow) -> EscrowBits
     }
 }
 
+#[tactic(auto, unfolding(crate::specs::Unfit::escrow_clear))]
 fn escrow_bits_unfit(bits: EscrowBits, count: usize) -> bool
     ensures { result ≡ not (eqb count 64 && escrow_clear bits) }
 {

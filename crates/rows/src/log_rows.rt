@@ -32,7 +32,7 @@ fn blank_log() -> [LogRow; 64]
     table.rows
 }
 
-// A table is made and taken apart by covered functions, so that the walks by hand need not look into one.
+// A table is made and taken apart by functions of their own.
 fn log_table(rows: [LogRow; 64]) -> LogTable
     ensures { result.rows ≡ rows }
 {
@@ -81,6 +81,7 @@ struct LogBits {
     places: u64,
 }
 
+#[tactic(auto, unfolding(crate::specs::Unfit::log_clear))]
 fn no_log_bits() -> LogBits
     ensures { log_clear result ≡ true }
 {
@@ -92,6 +93,7 @@ fn no_log_bits() -> LogBits
 }
 
 // First and length are read as one.
+#[tactic(auto, using(crate::proofs::Bits::log_joined), unfolding(crate::specs::Unfit::log_clear))]
 fn with_log_row(bits: LogBits, row: LogRow) -> LogBits
     ensures { log_clear result ≡ log_clear bits && log_table.is_blank row }
 {
@@ -102,6 +104,7 @@ fn with_log_row(bits: LogBits, row: LogRow) -> LogBits
     }
 }
 
+#[tactic(auto, unfolding(crate::specs::Unfit::log_clear))]
 fn log_bits_unfit(bits: LogBits, count: usize) -> bool
     ensures { result ≡ not (eqb count 64 && log_clear bits) }
 {
