@@ -6,29 +6,24 @@ ghost use Rattle.ideal.specs.Box.{call_on};
 ghost use Rattle.printing.specs.Printing.{Ended};
 
 use ideal::Profile;
-use libc::STDERR_FILENO;
 use printing::Ending;
 
-fn print_sheet() -> Ending
+fn print_sheet(rt: HostRuntime) -> Ending
     ensures { Ended result call_on }
 {
-    printing::print_answers(Profile::Full)
+    printing::print_answers(rt, Profile::Full)
 }
 
-fn main() {
-    match print_sheet() {
-        Ending::Whole(_) => {}
-        Ending::Unread => {
-            io::write_all(
-                STDERR_FILENO,
-                b"boxrun: standard input cannot be read; no sheet is printed\n",
-            );
-        }
+fn main(rt: HostRuntime) {
+    let said = match print_sheet(rt) {
+        Ending::Whole(_) => Ok(()),
+        Ending::Unread => eprintln!(rt;
+            "boxrun: standard input cannot be read; no sheet is printed"
+        ),
         Ending::Unwritten(_) => {
-            io::write_all(
-                STDERR_FILENO,
-                b"boxrun: standard output cannot be written; the sheet is not whole\n",
-            );
+            eprintln!(rt; "boxrun: standard output cannot be written; the sheet is not whole")
         }
-    }
+    };
+    // Where standard error cannot be written either, nobody can be told.
+    let _ = said;
 }

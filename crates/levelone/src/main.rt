@@ -6,29 +6,24 @@ ghost use Rattle.ideal.specs.LevelOne.{level_one_on};
 ghost use Rattle.printing.specs.Printing.{Ended};
 
 use ideal::Profile;
-use libc::STDERR_FILENO;
 use printing::Ending;
 
-fn print_sheet() -> Ending
+fn print_sheet(rt: HostRuntime) -> Ending
     ensures { Ended result level_one_on }
 {
-    printing::print_answers(Profile::LevelOne)
+    printing::print_answers(rt, Profile::LevelOne)
 }
 
-fn main() {
-    match print_sheet() {
-        Ending::Whole(_) => {}
-        Ending::Unread => {
-            io::write_all(
-                STDERR_FILENO,
-                b"levelone: standard input cannot be read; no sheet is printed\n",
-            );
-        }
+fn main(rt: HostRuntime) {
+    let said = match print_sheet(rt) {
+        Ending::Whole(_) => Ok(()),
+        Ending::Unread => eprintln!(rt;
+            "levelone: standard input cannot be read; no sheet is printed"
+        ),
         Ending::Unwritten(_) => {
-            io::write_all(
-                STDERR_FILENO,
-                b"levelone: standard output cannot be written; the sheet is not whole\n",
-            );
+            eprintln!(rt; "levelone: standard output cannot be written; the sheet is not whole")
         }
-    }
+    };
+    // Where standard error cannot be written either, nobody can be told.
+    let _ = said;
 }

@@ -1,5 +1,5 @@
--- What is read of a script, and what is printed of its sheet. Which bytes C's read and write move no contract can say: the
--- bytes that write is handed are said.
+-- What is read of a script, and what is printed of its sheet. Which bytes come in by standard input and go out by standard
+-- output no contract can say: the bytes that are handed on to be written are said.
 use Rattle.std.specs.Prelude.{ℕ, ◌+◌, ◌≤◌, ◌<◌, ◌≡◌, List, length, take, drop}
 use Rattle.ideal.specs.Tables.{Tables}
 use Rattle.ideal.specs.Box.{Element, Result}

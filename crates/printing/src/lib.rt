@@ -10,9 +10,9 @@ ghost use Rattle.sheet.specs.Sheet.{header, sheet};
 ghost use Rattle.printing.specs.Printing.{ReadWithin, PrintedWhole, Ended};
 
 use ideal::Profile;
-use libc::STDIN_FILENO;
 use output::Printed;
 pub use output::{Failure, Progress};
+use std::io::{Read, Stdin, Stdout};
 
 // How many bytes of a script were read, or that standard input cannot be read.
 #[derive(Clone, Copy)]
@@ -30,17 +30,14 @@ pub enum Ending {
 }
 
 // Reads until the buffer is full or the input ends.
-fn read_script(script: &mut [u8]) -> Input
+fn read_script(mut input: Stdin, script: &mut [u8]) -> Input
     ensures { ReadWithin result (length script.new) }
 {
     let mut n: usize = 0;
     while n < script.len() {
-        let part = &mut script[n..];
-        let got = libc::read(STDIN_FILENO, part);
-        if got < 0 {
+        let Ok(more) = input.read(&mut script[n..]) else {
             return Input::Unreadable;
-        }
-        let more = io::count(got, part);
+        };
         if more == 0 {
             return Input::Bytes(n);
         }
@@ -51,7 +48,7 @@ fn read_script(script: &mut [u8]) -> Input
 
 // The lines after the header, 65,536 bytes of them or fewer at a time, until no record is left or where writing fails.
 // `head` counts the header.
-fn run(profile: Profile, script: &[u8], head: Progress) -> Printed
+fn run(output: Stdout, profile: Profile, script: &[u8], head: Progress) -> Printed
     requires { (length script.now ≤ 65536) × (head.printed ≡ length header) }
     ensures { PrintedWhole result (sheet (box_of profile) script.now) }
 {
@@ -82,7 +79,7 @@ fn run(profile: Profile, script: &[u8], head: Progress) -> Printed
         log = lines.log;
         escrow = lines.escrow;
         let size = lines.size;
-        let part = output::print(profile, script, so_far, &text[..size]);
+        let part = output::print(output, profile, script, so_far, &text[..size]);
         let Printed::UpTo(more) = part else {
             return part;
         };
@@ -93,28 +90,28 @@ fn run(profile: Profile, script: &[u8], head: Progress) -> Printed
 }
 
 // The sheet of the script: the header, and its lines or the line for too long a script.
-fn print_sheet(profile: Profile, script: &[u8]) -> Printed
+fn print_sheet(output: Stdout, profile: Profile, script: &[u8]) -> Printed
     ensures { PrintedWhole result (sheet (box_of profile) script.now) }
 {
-    let part = output::print(profile, script, output::nothing(), &sheet::header());
+    let part = output::print(output, profile, script, output::nothing(), &sheet::header());
     let Printed::UpTo(head) = part else {
         return part;
     };
     if script.len() <= 65536 {
-        return run(profile, script, head);
+        return run(output, profile, script, head);
     }
-    output::print(profile, script, head, &sheet::too_long())
+    output::print(output, profile, script, head, &sheet::too_long())
 }
 
 // Reads a script from standard input, and prints its sheet.
-pub fn print_answers(profile: Profile) -> Ending
+pub fn print_answers(rt: HostRuntime, profile: Profile) -> Ending
     ensures { Ended result (box_of profile) }
 {
     let mut script = [0u8; 65537];
-    let Input::Bytes(n) = read_script(&mut script) else {
+    let Input::Bytes(n) = read_script(rt.stdin(), &mut script) else {
         return Ending::Unread;
     };
-    match print_sheet(profile, &script[..n]) {
+    match print_sheet(rt.stdout(), profile, &script[..n]) {
         Printed::UpTo(progress) => Ending::Whole(progress),
         Printed::Failed(failure) => Ending::Unwritten(failure),
     }

@@ -5,7 +5,7 @@ ghost use Rattle.sheet.specs.Sheet.{sheet};
 ghost use Rattle.printing.specs.Printing.{NextPart, PrintedPart};
 
 use ideal::Profile;
-use libc::STDOUT_FILENO;
+use std::io::{Print, Stdout};
 
 // How many bytes of a sheet are printed. The field is private: only `nothing` and `print` make one.
 #[derive(Clone, Copy)]
@@ -32,17 +32,22 @@ pub fn nothing() -> Progress
 }
 
 // The next part of the script's sheet. The profile says which sheet that is, and nothing else.
-pub fn print(profile: Profile, script: &[u8], before: Progress, bytes: &[u8]) -> Printed
+pub fn print(
+    output: Stdout,
+    profile: Profile,
+    script: &[u8],
+    before: Progress,
+    bytes: &[u8],
+) -> Printed
     requires next_part { NextPart (sheet (box_of profile) script.now) before.printed bytes.now }
     requires bytes_bound { before.printed + length bytes.now < 2 ^ 64 }
     ensures { PrintedPart result before.printed bytes.now }
 {
     let printed = before.printed;
-    if io::write_all(STDOUT_FILENO, bytes) {
-        Printed::UpTo(Progress {
+    match output.write_all(bytes) {
+        Ok(()) => Printed::UpTo(Progress {
             printed: printed + bytes.len(),
-        })
-    } else {
-        Printed::Failed(Failure { from: printed })
+        }),
+        Err(_) => Printed::Failed(Failure { from: printed }),
     }
 }

@@ -1,12 +1,11 @@
 // FNV-1a vectors of 64 bits, run on the proved library. `stdout` has their values: five were given from outside, and the
 // others are computed (docs/DECISIONS.md, "FNV's vectors").
-
 #![tactic(auto)]
 
 ghost use Rattle.std.specs.Prelude.{◌≡◌};
 ghost use Rattle.vectors.specs.Lines.{line_of};
 
-use libc::STDOUT_FILENO;
+use std::io::Result;
 
 // The hash in hexadecimal, and a line feed.
 fn line_of(value: &[u8]) -> [u8; 17]
@@ -23,19 +22,19 @@ fn line_of(value: &[u8]) -> [u8; 17]
     line
 }
 
-fn main() {
-    io::write_all(STDOUT_FILENO, &line_of(b""));
-    io::write_all(STDOUT_FILENO, &line_of(b"a"));
-    io::write_all(STDOUT_FILENO, &line_of(b"b"));
-    io::write_all(STDOUT_FILENO, &line_of(b"c"));
-    io::write_all(STDOUT_FILENO, &line_of(b"d"));
-    io::write_all(STDOUT_FILENO, &line_of(b"e"));
-    io::write_all(STDOUT_FILENO, &line_of(b"f"));
-    io::write_all(STDOUT_FILENO, &line_of(b"fo"));
-    io::write_all(STDOUT_FILENO, &line_of(b"foo"));
-    io::write_all(STDOUT_FILENO, &line_of(b"foob"));
-    io::write_all(STDOUT_FILENO, &line_of(b"fooba"));
-    io::write_all(STDOUT_FILENO, &line_of(b"foobar"));
-    io::write_all(STDOUT_FILENO, &line_of(b"hello"));
-    io::write_all(STDOUT_FILENO, &line_of(b"chongo was here!\n"));
+fn main(rt: HostRuntime) -> Result<()> {
+    rt.write_all(&line_of(b""))?;
+    rt.write_all(&line_of(b"a"))?;
+    rt.write_all(&line_of(b"b"))?;
+    rt.write_all(&line_of(b"c"))?;
+    rt.write_all(&line_of(b"d"))?;
+    rt.write_all(&line_of(b"e"))?;
+    rt.write_all(&line_of(b"f"))?;
+    rt.write_all(&line_of(b"fo"))?;
+    rt.write_all(&line_of(b"foo"))?;
+    rt.write_all(&line_of(b"foob"))?;
+    rt.write_all(&line_of(b"fooba"))?;
+    rt.write_all(&line_of(b"foobar"))?;
+    rt.write_all(&line_of(b"hello"))?;
+    rt.write_all(&line_of(b"chongo was here!\n"))
 }
