@@ -1,8 +1,8 @@
 -- A link's numbers. Assumes nothing.
 use mathlib.Core.Path.{refl}
-use Rattle.record.specs.Call.{logged_link, escrowed_link, link_by, way_of, identity_of, number_of}
+use Rattle.record.specs.Call.{link_by, way_of, identity_of, number_of}
 use Rattle.record.specs.Write.{filled}
-use Rattle.record.specs.Statements.{NumbersOf, LinksByNumbers}
+use Rattle.record.specs.Statements.{LinksByNumbers}
 
 pub links_by_numbers : LinksByNumbers
 unfolding filled link_by way_of identity_of number_of

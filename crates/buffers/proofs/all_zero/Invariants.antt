@@ -1,11 +1,7 @@
 use Prim.Native.Nat.{◌-◌, ◌≤◌}
-use mathlib.Core.Path.{◌≡◌, refl, sym, ◌∙◌}
-use native.Mathlib.Omega.{arith}
+use mathlib.Core.Path.{◌≡◌}
 use lib.ListN.{length, drop}
-use borrow.Author.Tests.{not-true, not-false}
-use borrow.Author.Rules.{rules}
 use Rattle.lists.specs.Lists.{all_zero}
-use Rattle.buffers.proofs.Loops.{part_step, to_end}
 use Rattle.buffers.proofs.all_zero.Given as goal
 
 -- the bytes to come are all zero just where the whole is

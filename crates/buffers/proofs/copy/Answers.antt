@@ -1,8 +1,8 @@
-use Prim.Native.Nat.{ℕ, ◌≤◌, ◌-◌}
+use Prim.Native.Nat.{ℕ}
 use mathlib.Core.Path.{◌≡◌, refl, ap, ◌∙◌}
-use mathlib.Core.List.{List, ◌++◌}
+use mathlib.Core.List.{List}
 use native.Mathlib.Omega.{arith}
-use lib.ListN.{length, take, drop, set, get_or, length-set}
+use lib.ListN.{length, set, get_or, length-set}
 use lib.Seq.{take-length}
 use Rattle.buffers.proofs.Loops.{copy_more}
 use Rattle.buffers.proofs.copy.Goals as goal

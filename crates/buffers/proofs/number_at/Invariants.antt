@@ -1,10 +1,7 @@
 use Prim.Native.Nat.{◌+◌, ◌-◌, ◌≤◌, ◌<◌, ◌^◌}
-use mathlib.Core.Path.{◌≡◌, refl}
-use native.Mathlib.Omega.{arith}
+use mathlib.Core.Path.{◌≡◌}
 use lib.ListN.{take, drop}
-use borrow.Author.Rules.{rules}
 use Rattle.record.specs.Read.{from_little}
-use Rattle.record.proofs.LittleEndian.{byte_more, below_more, below_seven}
 use Rattle.buffers.proofs.number_at.Given as goal
 
 -- x is the number of the highest i bytes

@@ -1,13 +1,9 @@
-use Prim.Native.Nat.{◌≤◌, ◌<◌, ◌-◌}
-use mathlib.Core.Path.{◌≡◌, refl, sym, ◌∙◌}
+use Prim.Native.Nat.{◌≤◌, ◌-◌}
+use mathlib.Core.Path.{◌≡◌}
 use mathlib.Core.Bool.{◌&&◌}
-use native.Mathlib.Omega.{arith}
 use lib.Dec.{eqb}
 use lib.ListN.{length, drop}
-use lib.Seq.{drop-length}
-use Rattle.lists.specs.Lists.{every, all_zero}
-use Rattle.lists.proofs.Bools.{and_assoc, and_nil}
-use Rattle.buffers.proofs.Loops.{joined, zero_step}
+use Rattle.lists.specs.Lists.{all_zero}
 use Rattle.buffers.proofs.part_zero.Given as goal
 
 -- the bytes joined so far and the bytes to come are all zero just where the whole is

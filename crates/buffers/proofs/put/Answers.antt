@@ -3,7 +3,6 @@ use mathlib.Core.Path.{◌≡◌, ap, ◌∙◌}
 use mathlib.Core.List.{◌++◌}
 use native.Mathlib.Omega.{arith}
 use lib.ListN.{length, take, drop, length-take}
-use borrow.Author.Rules.{rules}
 use Rattle.buffers.proofs.Loops.{part_replaced, copied_whole}
 use Rattle.buffers.proofs.put.Goals as goal
 

@@ -1,9 +1,8 @@
-use Prim.Native.Nat.{suc, ◌≤◌, ◌+◌, ◌-◌}
+use Prim.Native.Nat.{suc, ◌+◌, ◌-◌}
 use mathlib.Core.Path.{◌≡◌, refl}
 use native.Mathlib.Omega.{arith}
 use native.Mathlib.Nat.{add-zero, sub-zero}
-use lib.ListN.{length, length-set}
-use lib.Seq.{sets}
+use lib.ListN.{length-set}
 use Rattle.fnv.specs.Fnv.{little}
 use Rattle.record.proofs.Stores.{store_one}
 use Rattle.buffers.proofs.put_number.Goals as goal

@@ -1,11 +1,8 @@
-use Prim.Native.Nat.{suc, ◌≤◌, ◌+◌, ◌-◌}
-use mathlib.Core.Path.{◌≡◌, refl}
-use native.Mathlib.Omega.{arith}
-use native.Mathlib.Nat.{add-zero, sub-zero}
-use lib.ListN.{length, length-set}
+use Prim.Native.Nat.{◌≤◌, ◌+◌, ◌-◌}
+use mathlib.Core.Path.{◌≡◌}
+use lib.ListN.{length}
 use lib.Seq.{sets}
 use Rattle.fnv.specs.Fnv.{little}
-use Rattle.record.proofs.Stores.{store_one}
 use Rattle.buffers.proofs.put_number.Given as goal
 
 -- storing the bytes of what is left gives the whole

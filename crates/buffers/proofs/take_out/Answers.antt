@@ -1,4 +1,3 @@
-use borrow.Author.Rules.{rules}
 use Rattle.buffers.proofs.Loops.{tail_cleared}
 use Rattle.buffers.proofs.take_out.Goals as goal
 

@@ -1,4 +1,4 @@
-use Rattle.std.proofs.Common.{◌≡◌, ◌-◌, ◌≤◌, length, drop, refl, arith, rules}
+use Rattle.std.proofs.Common.{◌≡◌, length, refl, arith, rules}
 use lib.Seq.{drop-length}
 use Rattle.fnv.specs.Fnv.{fnv_from}
 use Rattle.fnv.proofs.Append.{fnv_step}

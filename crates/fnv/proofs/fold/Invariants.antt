@@ -1,7 +1,5 @@
-use Rattle.std.proofs.Common.{◌≡◌, ◌-◌, ◌≤◌, length, drop, refl, arith, rules}
-use lib.Seq.{drop-length}
+use Rattle.std.proofs.Common.{◌≡◌, ◌-◌, ◌≤◌, length, drop}
 use Rattle.fnv.specs.Fnv.{fnv_from}
-use Rattle.fnv.proofs.Append.{fnv_step}
 use Rattle.fnv.proofs.fold.Given as goal
 
 -- what is left to fold, from x on, gives the whole

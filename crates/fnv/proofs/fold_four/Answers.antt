@@ -1,5 +1,4 @@
-use Rattle.std.proofs.Common.{◌≡◌, ◌-◌, ◌≤◌, length, drop, refl, ◌∙◌, arith, rules}
-use Rattle.fnv.specs.Fnv.{fnv_from}
+use Rattle.std.proofs.Common.{refl, ◌∙◌, arith}
 use Rattle.fnv.proofs.Append.{fnv_step}
 use Rattle.fnv.proofs.fold_four.Goals as goal
 

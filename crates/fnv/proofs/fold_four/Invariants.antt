@@ -1,6 +1,5 @@
-use Rattle.std.proofs.Common.{◌≡◌, ◌-◌, ◌≤◌, length, drop, refl, ◌∙◌, arith, rules}
+use Rattle.std.proofs.Common.{◌≡◌, ◌-◌, ◌≤◌, drop}
 use Rattle.fnv.specs.Fnv.{fnv_from}
-use Rattle.fnv.proofs.Append.{fnv_step}
 use Rattle.fnv.proofs.fold_four.Given as goal
 
 -- what is left to fold of each slice gives the whole of it

@@ -1,4 +1,3 @@
-use Rattle.std.proofs.Common.{rules}
 use Rattle.fnv.proofs.Append.{tag_folded}
 use Rattle.fnv.proofs.four_tags.Goals as goal
 

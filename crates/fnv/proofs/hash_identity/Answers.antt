@@ -1,4 +1,4 @@
-use Rattle.std.proofs.Common.{ap, ◌∙◌, rules}
+use Rattle.std.proofs.Common.{ap, ◌∙◌}
 use Rattle.fnv.specs.Fnv.{fnv1a}
 use Rattle.fnv.proofs.hash_identity.Goals as goal
 

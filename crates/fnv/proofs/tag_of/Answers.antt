@@ -1,4 +1,3 @@
-use Rattle.std.proofs.Common.{rules}
 use Rattle.fnv.proofs.Append.{tag_folded}
 use Rattle.fnv.proofs.tag_of.Goals as goal
 

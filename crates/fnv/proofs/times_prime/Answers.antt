@@ -1,4 +1,4 @@
-use Rattle.std.proofs.Common.{◌≡◌, ℕ, ◌+◌, ◌*◌, ◌%◌, ◌^◌, refl, ap, ◌∙◌, rules}
+use Rattle.std.proofs.Common.{◌*◌, ◌^◌}
 use Rattle.fnv.proofs.Modulo.{seven, prime_sum}
 use Rattle.fnv.proofs.times_prime.Goals as goal
 

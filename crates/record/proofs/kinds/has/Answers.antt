@@ -1,4 +1,3 @@
-use borrow.Author.Rules.{rules}
 use mathlib.Core.Path.{refl}
 use Rattle.record.specs.Layout.{stands}
 use Rattle.record.proofs.kinds.has.Goals as goal
