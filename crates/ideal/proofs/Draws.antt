@@ -10,7 +10,7 @@ use lib.Dec.{eqb}
 use borrow.Author.Tests.{eqb-true}
 use Rattle.ideal.specs.Step.{next}
 use Rattle.ideal.specs.Accuracy.{iterate}
-use Rattle.ideal.specs.Draws.{Follows, NextDraw, DrawsDiffer}
+use Rattle.ideal.specs.Draws.{NextDraw, DrawsDiffer}
 use Rattle.lists.proofs.Bools.{and_left, and_right}
 
 pub next_draw : NextDraw

@@ -1,5 +1,5 @@
 -- The tests of soundness as plain facts, and the tests of rows as tests of entries. Assumes nothing.
-use Prim.Native.Nat.{ℕ, zero, ◌/◌, ◌^◌}
+use Prim.Native.Nat.{ℕ, ◌/◌, ◌^◌}
 use mathlib.Core.Path.{◌≡◌, refl, sym, ap, ◌∙◌}
 use mathlib.Core.Bool.{Bool, true, not, ◌&&◌, cond}
 use mathlib.Core.List.{List, [], ◌∷◌}

@@ -7,7 +7,7 @@ use mathlib.Core.List.{List, [], ◌∷◌, ◌++◌, map, reverse}
 use native.Mathlib.Omega.{arith}
 use lib.ListN.{length, get_or, take}
 use lib.Dec.{eqb, ltb}
-use borrow.Author.Tests.{eq-eqb, eqb-true, eqb-false, not-true}
+use borrow.Author.Tests.{eq-eqb, not-true}
 use Rattle.fnv.specs.Fnv.{mixed, fnv_from, fnv1a, little, tag_of}
 use Rattle.record.specs.declared.Handle.{Handle}
 use Rattle.record.specs.Call.{Call, create, attest, protect, retrieve, report, hand_over}
@@ -25,9 +25,8 @@ use Rattle.ideal.specs.Accuracy.{RetrieveIsAccurate}
 use Rattle.ideal.specs.OneCall.{leaves, AcceptedCalls}
 use Rattle.ideal.specs.Valid.{Valid}
 use Rattle.ideal.specs.Witness.{element}
-use Rattle.ideal.specs.Demands.{Demand2}
-use Rattle.ideal.specs.Fakes.{kind_in, used_in, reply, faked, always, of_kind, says, refuses_each, carries_out, fixed_reply, touches_nothing, serves_the_first, invents_totals, says_not_there, recovers_nothing_later, turned, turns_log_round, NeverAccepts, Faults, ShutOut}
-use Rattle.lists.proofs.Bools.{by_cases, clash, and_left, and_true, and_false}
+use Rattle.ideal.specs.Fakes.{kind_in, used_in, reply, faked, always, of_kind, says, refuses_each, carries_out, fixed_reply, touches_nothing, serves_the_first, invents_totals, turned, turns_log_round, NeverAccepts, Faults, ShutOut}
+use Rattle.lists.proofs.Bools.{by_cases, clash, and_true, and_false}
 use Rattle.ideal.proofs.Draws.{below, at_below}
 use Rattle.ideal.proofs.Table.{log_lawful, entries_back}
 use Rattle.ideal.proofs.Laid.{step_element, state_tables, fresh_tables_lem, call_is}

@@ -8,7 +8,6 @@ use lib.Dec.{eqb}
 use borrow.Author.Tests.{eqb-true, eqb-false}
 use Rattle.record.specs.Call.{Call, create, exit, heap_write, heap_read, shared_write, shared_read, attest, check, protect, retrieve, report, hand_over, chain, release}
 use Rattle.record.specs.Read.{whole, read}
-use Rattle.ideal.specs.Step.{number}
 use Rattle.ideal.specs.Tables.{Tables}
 use Rattle.ideal.specs.Box.{Element, Result, call_on}
 use Rattle.ideal.specs.Refusals.{EachNumberBy, RefusalsAlterNothing}

@@ -9,7 +9,7 @@ use lib.Dec.{eqb}
 use Rattle.record.specs.declared.Handle.{Handle}
 use Rattle.record.specs.Call.{Link, logged_link, escrowed_link, stray_link, identity_of}
 use Rattle.ideal.specs.State.{Logged, Escrowed}
-use Rattle.ideal.specs.Step.{Head, malformed, ends, leads, head_of, is_malformed, unreadable, bytes_after, after_head, links_after, link_value, unvouched, follow, links_from, absent, first_holding}
+use Rattle.ideal.specs.Step.{Head, malformed, ends, leads, head_of, is_malformed, unreadable, bytes_after, after_head, links_after, link_value, unvouched, follow, links_from, first_holding}
 use Rattle.lists.proofs.Bools.{by_cases}
 use Rattle.ideal.proofs.TwoEscrows.{SameFound}
 

@@ -13,20 +13,18 @@ use Rattle.record.specs.Call.{Call, check, protect, retrieve}
 use Rattle.record.specs.Read.{whole, read}
 use Rattle.record.specs.Write.{filled}
 use Rattle.ideal.specs.State.{State, any}
-use Rattle.ideal.specs.Step.{refused_answer, step_by, reading_by, step_on_by}
+use Rattle.ideal.specs.Step.{refused_answer}
 use Rattle.ideal.specs.Tables.{Tables, tables, state_of}
-use Rattle.ideal.specs.Box.{Element, Result, laid, unsound, box_by, call_on, element_at, tables_before, answer_at}
+use Rattle.ideal.specs.Box.{Element, Result, call_on, element_at, tables_before, answer_at}
 use Rattle.ideal.specs.Refusals.{one_of}
 use Rattle.ideal.specs.Valid.{Valid}
 use Rattle.ideal.specs.History.{HistoryHolds, Reports}
 use Rattle.ideal.specs.Accuracy.{Sized, CheckIsAccurate, HandleOnce}
 use Rattle.ideal.specs.LevelOne.{level_one_refusal, level_one_on, level_one_rows}
 use Rattle.ideal.specs.LevelOneDemands.{EscrowIsBarred, RetrieveHandsOut}
-use Rattle.lists.proofs.Bools.{by_cases}
 use Rattle.ideal.proofs.LevelOneNumbers.{rows_first}
 use Rattle.ideal.proofs.Laid.{state_tables}
 use Rattle.ideal.proofs.Conditions.{first_of}
-use Rattle.ideal.proofs.Numbers.{settle_code}
 use Rattle.ideal.proofs.Runs.{state_before, valid_before, tables_before_lem}
 use Rattle.ideal.proofs.OwnRefusals.{barred_with}
 use Rattle.ideal.proofs.OneAnswer.{code_is}

@@ -10,7 +10,7 @@ use Rattle.record.specs.Read.{Reading, refused, whole, read}
 use Rattle.record.specs.Write.{filled}
 use Rattle.ideal.specs.State.{State, any, every}
 use Rattle.ideal.specs.Step.{refusal, refused_answer, refuse, accepted, settle, on_reading, reading_by, step_on_by, step_by}
-use Rattle.ideal.specs.Tables.{Tables, tables, state_of}
+use Rattle.ideal.specs.Tables.{Tables, state_of}
 use Rattle.ideal.specs.Soundness.{sizes_right, sound}
 use Rattle.ideal.specs.Box.{Element, laid, unsound, call_on, box_by}
 use Rattle.ideal.specs.Layouts.{Sound}

@@ -10,15 +10,14 @@ use lib.Dec.{eqb, ltb}
 use borrow.Author.Tests.{ltb-false, eqb-true, eqb-false, eq-eqb, ne_eqb, not-false}
 use Rattle.record.specs.declared.Handle.{Handle}
 use Rattle.record.specs.Call.{Call, create, exit, heap_write, heap_read, shared_write, shared_read, attest, check, protect, retrieve, report, hand_over, chain, release}
-use Rattle.record.specs.Read.{whole, read}
 use Rattle.ideal.specs.State.{Entry, Logged, Escrowed, State, cleared, identity_at, caller, own_part, any, position, bytes_used}
 use Rattle.ideal.specs.Step.{paired, full, with_pair, pair_of, is_named, is_escrowed, spent, given_up, found, value_in, protected, vacant, beyond, tests, refusal, move, apply, effect, number, shown, accepted}
-use Rattle.ideal.specs.Tables.{Tables, taken_map, box_record, tables, used_log, used_escrow, state_of}
-use Rattle.ideal.specs.Box.{Element, laid, call_on}
+use Rattle.ideal.specs.Tables.{taken_map, box_record, tables, used_log, used_escrow, state_of}
+use Rattle.ideal.specs.Box.{laid, call_on}
 use Rattle.ideal.specs.Valid.{Valid}
 use Rattle.ideal.specs.Refusals.{caller_in, is_row, holds_pair, length_in, row_for}
 use Rattle.ideal.specs.History.{ones}
-use Rattle.ideal.specs.OneCall.{with_places_in, with_shared, with_log_row, with_escrow_row, with_released, leaves, counted_number, shows, Done, AcceptedCalls}
+use Rattle.ideal.specs.OneCall.{with_places_in, with_shared, with_log_row, with_escrow_row, with_released, leaves, counted_number, shows, AcceptedCalls}
 use Rattle.lists.proofs.Bools.{by_cases, and_left, and_other, not_is, or_false_left, or_false_right}
 use Rattle.ideal.proofs.Passing.{failed, passed}
 use Rattle.ideal.proofs.Does.{busy, own_size, AttestPassed, attest_passed, protect_passed, ReleasePassed, release_passed}

@@ -1,15 +1,15 @@
 -- The demands, of one box that is given calls of both profiles; and that they fix it. Assumes nothing.
 use Prim.Native.Nat.{ℕ, suc}
 use mathlib.Core.Path.{◌≡◌, refl, sym, ap, ◌∙◌}
-use mathlib.Core.Bool.{Bool, true, true≢false}
-use mathlib.Core.List.{List, [], ◌∷◌}
+use mathlib.Core.Bool.{Bool, true≢false}
+use mathlib.Core.List.{[], ◌∷◌}
 use native.Mathlib.Omega.{arith}
 use Rattle.record.specs.Call.{Call}
 use Rattle.record.specs.Read.{whole, read}
 use Rattle.ideal.specs.declared.Profile.{Profile}
 use Rattle.ideal.specs.declared.Profile.TheVariants.{Full, LevelOne}
 use Rattle.ideal.specs.Tables.{Tables}
-use Rattle.ideal.specs.Box.{Element, box_by, element_at, tables_from, answers_from, tables_before}
+use Rattle.ideal.specs.Box.{Element, box_by, element_at, tables_from, answers_from}
 use Rattle.ideal.specs.Layouts.{Sound, StaysSound}
 use Rattle.ideal.specs.Refusals.{conditions_by}
 use Rattle.ideal.specs.Secrecy.{AlikeAt, same, other_bytes, PremiseAt, own_chain}

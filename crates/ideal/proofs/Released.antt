@@ -1,23 +1,22 @@
 -- What an accepted release alters in the host's tables. Assumes nothing.
-use Prim.Native.Nat.{ℕ, zero, suc, ◌+◌, ◌<◌}
+use Prim.Native.Nat.{ℕ, zero, suc, ◌+◌}
 use mathlib.Core.Path.{◌≡◌, refl, sym, ap, ◌∙◌, subst}
 use mathlib.Core.Bool.{true}
 use mathlib.Core.List.{List, [], ◌∷◌, ◌++◌}
 use native.Mathlib.Omega.{arith}
 use lib.ListN.{length, get_or, length-append}
-use lib.Dec.{eqb}
 use borrow.Author.Tests.{eqb-true}
 use Rattle.record.specs.declared.Handle.{Handle}
 use Rattle.record.specs.Call.{release}
 use Rattle.ideal.specs.State.{Escrowed, State, caller, bytes_used}
 use Rattle.ideal.specs.Step.{is_named, is_escrowed, spent, move, apply, effect, accepted}
-use Rattle.ideal.specs.Tables.{Tables, escrow_table, box_record, tables, state_of}
-use Rattle.ideal.specs.Box.{Element, laid, call_on}
+use Rattle.ideal.specs.Tables.{escrow_table, box_record, tables, state_of}
+use Rattle.ideal.specs.Box.{laid, call_on}
 use Rattle.ideal.specs.Valid.{Valid}
 use Rattle.ideal.specs.OneCall.{with_released}
 use Rattle.ideal.specs.Release.{escrow_row, Released, ReleaseAlters}
 use Rattle.lists.proofs.Bools.{and_left, and_right}
-use Rattle.ideal.proofs.Does.{ReleasePassed, release_passed}
+use Rattle.ideal.proofs.Does.{release_passed}
 use Rattle.ideal.proofs.GivenUp.{IsNamed, is_named_lem}
 use Rattle.ideal.proofs.Hosted.{escrowed_is}
 use Rattle.ideal.proofs.CloseUp.{row_is, released_tables}

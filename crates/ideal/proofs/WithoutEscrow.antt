@@ -1,12 +1,10 @@
 -- Demand 3's premises are met on a level_one box by two lists that differ: none of their calls is barred. Assumes nothing.
 use Prim.Native.Nat.{ℕ, zero, suc, ◌<◌}
 use mathlib.Core.Path.{◌≡◌, refl, sym, ap, ◌∙◌}
-use mathlib.Core.Bool.{Bool, true}
 use mathlib.Core.List.{List, [], ◌∷◌, map}
 use native.Mathlib.Omega.{arith}
 use lib.ListN.{length, take}
 use lib.Seq.{take_all}
-use lib.Dec.{eqb}
 use Rattle.record.specs.Call.{Call}
 use Rattle.record.specs.Layout.{stands, kinds, among, kind_of}
 use Rattle.record.specs.Read.{whole, read, from_little, field, contents, bytes_field, fields, read_fields, read_kind, after_map}
@@ -14,11 +12,11 @@ use Rattle.record.specs.Write.{write, only, record_of, filled, record_in}
 use Rattle.fnv.specs.Fnv.{little}
 use Rattle.ideal.specs.State.{State, fresh, cleared, own_part, any, same_bytes, bytes_used}
 use Rattle.ideal.specs.Step.{effect, refusal, first_holding, tests, idle, vacant, beyond, full, paired, with_pair, move, apply}
-use Rattle.ideal.specs.Tables.{Tables, tables, fresh_tables}
+use Rattle.ideal.specs.Tables.{tables}
 use Rattle.ideal.specs.Box.{Element, call_on, element_at, tables_from, tables_after, tables_before, answer_at}
 use Rattle.ideal.specs.Secrecy.{inside}
 use Rattle.ideal.specs.LevelOne.{is_other, logged_other, level_one_on}
-use Rattle.ideal.specs.Witness.{group, element, calls_without, Differing}
+use Rattle.ideal.specs.Witness.{group, element, calls_without}
 use Rattle.ideal.specs.LevelOneDemands.{MetWithoutEscrow}
 use Rattle.ideal.specs.Valid.{Valid}
 use Rattle.ideal.proofs.Laid.{ready_is, state_tables, fresh_tables_lem}

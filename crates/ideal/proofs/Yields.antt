@@ -7,8 +7,8 @@ use borrow.Author.Tests.{eqb-true}
 use Rattle.record.specs.Call.{Call}
 use Rattle.record.specs.Read.{Reading, refused, whole, read}
 use Rattle.ideal.specs.State.{State}
-use Rattle.ideal.specs.Step.{refusal, refused_answer, refuse, settle, step_by, reading_by, step_on_by}
-use Rattle.ideal.specs.Tables.{Tables, tables, state_of}
+use Rattle.ideal.specs.Step.{refusal, refused_answer, refuse, settle, reading_by, step_on_by}
+use Rattle.ideal.specs.Tables.{Tables, state_of}
 use Rattle.ideal.specs.Soundness.{sizes_right, sound}
 use Rattle.ideal.specs.Box.{Element, Result, laid, box_by, call_on}
 use Rattle.ideal.specs.Layouts.{Sound}

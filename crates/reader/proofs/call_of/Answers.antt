@@ -1,4 +1,3 @@
-use borrow.Author.Rules.{rules}
 use mathlib.Core.Path.{sym}
 use Rattle.reader.specs.Scan.{call_of}
 use Rattle.record.specs.Meaning.{call_in, CallWithin}

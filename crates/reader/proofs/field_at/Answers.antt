@@ -1,6 +1,5 @@
 use native.Mathlib.Omega.{arith}
-use borrow.Author.Tests.{lt-ltb, le-ltb, not-true, not-false}
-use borrow.Author.Rules.{rules}
+use borrow.Author.Tests.{lt-ltb, le-ltb}
 use Rattle.reader.specs.Scan.{taken_in, field_at, TakenWithin}
 use Rattle.record.proofs.LittleEndian.{zero_below}
 use Rattle.reader.proofs.field_at.Goals as goal

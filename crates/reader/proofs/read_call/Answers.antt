@@ -1,9 +1,6 @@
-use Prim.Native.Nat.{ℕ}
 use mathlib.Core.Path.{◌≡◌, sym, ◌∙◌}
 use native.Mathlib.Omega.{arith}
 use lib.ListN.{length, get_or, drop}
-use borrow.Author.Rules.{rules}
-use borrow.Author.Tests.{not-true, not-false}
 use Rattle.record.specs.Layout.{kind_of, map_of}
 use Rattle.record.specs.Read.{read, read_kind}
 use Rattle.record.specs.Meaning.{reading_in, ReadingWithin, legal_map}

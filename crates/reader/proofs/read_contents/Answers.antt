@@ -2,7 +2,6 @@ use Prim.Native.Nat.{◌+◌, ◌≤◌}
 use mathlib.Core.Path.{sym}
 use native.Mathlib.Omega.{arith}
 use lib.ListN.{length}
-use borrow.Author.Rules.{rules}
 use Rattle.record.specs.Meaning.{bytes_in, reading_in, PartWithin, ReadingWithin}
 use Rattle.reader.specs.Scan.{contents_in}
 use Rattle.reader.proofs.Positions.{contents_cut, ended_at}

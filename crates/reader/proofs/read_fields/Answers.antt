@@ -2,7 +2,6 @@ use Prim.Native.Nat.{◌≤◌, ◌<◌}
 use mathlib.Core.Path.{sym, ◌∙◌}
 use native.Mathlib.Omega.{arith}
 use lib.ListN.{length}
-use borrow.Author.Rules.{rules}
 use Rattle.record.specs.Read.{bytes_field, fields}
 use Rattle.record.specs.Meaning.{reading_in, ReadingWithin}
 use Rattle.reader.specs.Scan.{ThreeWithin, contents_in, fields_in}

@@ -1,7 +1,6 @@
 use Prim.Native.Nat.{◌+◌}
 use mathlib.Core.Path.{◌≡◌, sym, ap, ◌∙◌}
 use native.Mathlib.Omega.{arith}
-use borrow.Author.Rules.{rules}
 use Rattle.record.specs.Layout.{stands}
 use Rattle.reader.specs.Scan.{reads, taken_in, field_at, TakenWithin, three_in, after, three_at, ThreeWithin}
 use Rattle.reader.proofs.three_at.Goals as goal

@@ -1,4 +1,3 @@
-use borrow.Author.Rules.{rules}
 use Rattle.record.specs.Size.{field_size}
 use Rattle.writer.proofs.field_size.Goals as goal
 

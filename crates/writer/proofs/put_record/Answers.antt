@@ -1,4 +1,3 @@
-use borrow.Author.Rules.{rules}
 use native.Mathlib.Omega.{arith}
 use Rattle.record.specs.Write.{record_of}
 use Rattle.record.specs.Size.{record_size}

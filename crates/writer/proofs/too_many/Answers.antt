@@ -1,4 +1,3 @@
-use borrow.Author.Rules.{rules}
 use Rattle.writer.proofs.too_many.Goals as goal
 
 pub returns-then-has : goal.returns-then-has
