@@ -1,6 +1,5 @@
 use mathlib.Core.Path.{sym, ◌∙◌}
 use native.Mathlib.Omega.{arith}
-use borrow.Author.Rules.{rules}
 use Rattle.state.specs.Answers.{settled, showed}
 use Rattle.state.proofs.Settled.{refused_leaves}
 use Rattle.heap.specs.Narrow.{heap_read_answer, heap_read_output}

@@ -1,6 +1,5 @@
 use mathlib.Core.Path.{sym, ◌∙◌}
 use borrow.Author.Tests.{eq-eqb, ne_eqb, lt-ltb, le-ltb}
-use borrow.Author.Rules.{rules}
 use Rattle.ideal.specs.Step.{first_holding, beyond}
 use Rattle.heap.specs.Narrow.{heap_refusal}
 use Rattle.heap.proofs.heap_refusal.Goals as goal

@@ -1,6 +1,5 @@
 use mathlib.Core.Path.{sym, ◌∙◌}
 use native.Mathlib.Omega.{arith}
-use borrow.Author.Rules.{rules}
 use Rattle.state.specs.Answers.{settled, answered}
 use Rattle.state.proofs.Settled.{refused_leaves, refused_answers}
 use Rattle.heap.specs.Narrow.{heap_write_answer, heap_write_heaps}

@@ -1,13 +1,8 @@
 use Prim.Native.Nat.{◌≤◌, ◌-◌}
-use mathlib.Core.Path.{◌≡◌, refl, sym, ◌∙◌}
-use native.Mathlib.Omega.{arith}
-use lib.Seq.{drop-length}
-use lib.ListN.{length, take, drop, length-take}
-use Rattle.ideal.specs.Fit.{RowsFit}
+use mathlib.Core.Path.{◌≡◌}
+use lib.ListN.{take, drop}
 use Rattle.ideal.specs.Tables.{log_table, entries_of}
-use Rattle.ideal.specs.Step.{is_logged, logged}
-use Rattle.ideal.specs.State.{any}
-use Rattle.pairs.proofs.Search.{search_step}
+use Rattle.ideal.specs.Step.{logged}
 use Rattle.pairs.proofs.search_log.Given as goal
 
 abbrev pub invariant-loop-i : goal.invariant-loop-i

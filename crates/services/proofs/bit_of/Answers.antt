@@ -1,6 +1,5 @@
 use Prim.Native.Nat.{◌^◌}
 use native.Mathlib.Nat.{mod-eq_of_lt, one-mul}
-use borrow.Author.Rules.{rules}
 use Rattle.services.proofs.Map.{bit_fits}
 use Rattle.services.proofs.bit_of.Goals as goal
 

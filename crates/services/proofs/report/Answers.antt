@@ -1,6 +1,5 @@
 use native.Mathlib.Omega.{arith}
 use lib.Count as Count
-use borrow.Author.Rules.{rules}
 use Rattle.ideal.specs.Step.{first_holding}
 use Rattle.state.specs.Answers.{answered}
 use Rattle.services.specs.Narrow.{report_on}

@@ -1,11 +1,9 @@
-use Prim.Native.Nat.{◌-◌}
-use mathlib.Core.Path.{◌≡◌, refl, sym, ◌∙◌}
+use mathlib.Core.Path.{◌≡◌, refl, ◌∙◌}
 use native.Mathlib.Omega.{arith}
-use lib.ListN.{length, length-set, length-map}
+use lib.ListN.{length, length-set}
 use borrow.Author.Rules.{rules}
 use Rattle.ideal.specs.Tables.{escrow_table}
 use Rattle.ideal.proofs.Table.{escrow_lawful}
-use Rattle.state.specs.Edits.{lowered_from}
 use Rattle.state.proofs.Lowered.{lower_next, lower_done}
 use Rattle.state.proofs.editing.escrow_edited.Goals as goal
 

@@ -1,12 +1,8 @@
 use Prim.Native.Nat.{◌-◌}
-use mathlib.Core.Path.{◌≡◌, refl, sym, ◌∙◌}
-use native.Mathlib.Omega.{arith}
-use lib.ListN.{length, length-set, length-map}
-use borrow.Author.Rules.{rules}
+use mathlib.Core.Path.{◌≡◌}
+use lib.ListN.{length}
 use Rattle.ideal.specs.Tables.{escrow_table}
-use Rattle.ideal.proofs.Table.{escrow_lawful}
 use Rattle.state.specs.Edits.{lowered_from}
-use Rattle.state.proofs.Lowered.{lower_next, lower_done}
 use Rattle.state.proofs.editing.escrow_edited.Given as goal
 
 abbrev pub invariant-loop-i : goal.invariant-loop-i

@@ -1,5 +1,4 @@
 use borrow.Author.Tests.{eq-eqb, ne_eqb}
-use borrow.Author.Rules.{rules}
 use Rattle.state.proofs.editing.falls_from.Goals as goal
 
 pub returns-then-fall-eq0 : goal.returns-then-fall-eq0

@@ -1,4 +1,3 @@
-use borrow.Author.Rules.{rules}
 use Rattle.state.proofs.editing.lower_escrow_row.Goals as goal
 
 pub returns : goal.returns

@@ -1,4 +1,3 @@
-use borrow.Author.Rules.{rules}
 use Rattle.state.proofs.editing.no_log_edit.Goals as goal
 
 pub returns : goal.returns

@@ -1,5 +1,4 @@
 use Rattle.ideal.specs.Tables.{fresh_tables}
-use borrow.Author.Rules.{rules}
 use Rattle.state.proofs.fresh.fresh_log.Goals as goal
 
 pub returns : goal.returns

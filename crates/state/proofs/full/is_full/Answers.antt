@@ -1,5 +1,4 @@
 use borrow.Author.Tests.{eq-eqb, ne_eqb}
-use borrow.Author.Rules.{rules}
 use Rattle.state.specs.Counts.{full_by}
 use Rattle.state.proofs.full.is_full.Goals as goal
 
