@@ -41,7 +41,17 @@ pub extern "C" fn caif_call(
         ≡ entry_on call_on (lent_tables held log.old escrow.old heaps.old shared.old log_values.old escrow_values.old)
         bytes.now output.old }
 {
-    caif::caif_call(held, log, escrow, heaps, shared, log_values, escrow_values, output, bytes)
+    caif::caif_call(
+        held,
+        log,
+        escrow,
+        heaps,
+        shared,
+        log_values,
+        escrow_values,
+        output,
+        bytes,
+    )
 }
 
 // As caif_call, on a box record that is lent too and has the new state afterwards. A refusal stores nothing.
@@ -61,7 +71,17 @@ pub extern "C" fn caif_call_lent(
         ≡ entry_on call_on (lent_tables held.entry.now log.old escrow.old heaps.old shared.old log_values.old escrow_values.old)
         bytes.now output.old }
 {
-    caif::caif_call_lent(held, log, escrow, heaps, shared, log_values, escrow_values, output, bytes)
+    caif::caif_call_lent(
+        held,
+        log,
+        escrow,
+        heaps,
+        shared,
+        log_values,
+        escrow_values,
+        output,
+        bytes,
+    )
 }
 
 // The same on the level-one box.
@@ -81,7 +101,17 @@ pub extern "C" fn caif_call_level_one(
         ≡ entry_on level_one_on (lent_tables held log.old escrow.old heaps.old shared.old log_values.old escrow_values.old)
         bytes.now output.old }
 {
-    caif::caif_call_level_one(held, log, escrow, heaps, shared, log_values, escrow_values, output, bytes)
+    caif::caif_call_level_one(
+        held,
+        log,
+        escrow,
+        heaps,
+        shared,
+        log_values,
+        escrow_values,
+        output,
+        bytes,
+    )
 }
 
 // The record of a call, at the front of out.
