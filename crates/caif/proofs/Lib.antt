@@ -1,4 +1,3 @@
 pub mod Counting
 pub mod OneTable
 pub mod Lending
-pub mod Handed

@@ -1,4 +1,4 @@
-// The entry for hosts in C to which the box record is lent.
+// The entry to which the box record is lent.
 ghost use Rattle.std.specs.Prelude.{◌≡◌};
 ghost use Rattle.ideal.specs.Tables.{lent_tables};
 ghost use Rattle.ideal.specs.Box.{call_on};
@@ -10,8 +10,7 @@ use ideal::{BoxRecord, EscrowRow, LogRow, Profile};
 use state::Answer;
 
 // As caif_call, on a box record that is lent too and has the new state afterwards (document 02, P9). A refusal stores nothing.
-#[unsafe(no_mangle)]
-pub extern "C" fn caif_call_lent(
+pub fn caif_call_lent(
     held: &mut BoxRecord,
     log: &mut [LogRow],
     escrow: &mut [EscrowRow],

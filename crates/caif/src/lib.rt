@@ -1,4 +1,4 @@
-// The box for hosts in C: what include/caif.h declares.
+// The box over lent rows and buffers: what the exports of crate caif_c call, each the function of its name.
 
 #![tactic(auto)]
 
@@ -38,16 +38,14 @@ pub struct WrittenReply {
 }
 
 // The box record of a fresh box.
-#[unsafe(no_mangle)]
-pub extern "C" fn caif_fresh() -> BoxRecord
+pub fn caif_fresh() -> BoxRecord
     ensures { result ≡ fresh_tables.box }
 {
     fresh_record()
 }
 
 // One record on any box, over lent rows and buffers of any count.
-#[unsafe(no_mangle)]
-pub extern "C" fn caif_call(
+pub fn caif_call(
     held: BoxRecord,
     log: &mut [LogRow],
     escrow: &mut [EscrowRow],
@@ -77,8 +75,7 @@ pub extern "C" fn caif_call(
 }
 
 // The same on the level_one box (document 02, P5).
-#[unsafe(no_mangle)]
-pub extern "C" fn caif_call_level_one(
+pub fn caif_call_level_one(
     held: BoxRecord,
     log: &mut [LogRow],
     escrow: &mut [EscrowRow],

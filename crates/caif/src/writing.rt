@@ -1,4 +1,4 @@
-// The record of a call, for hosts in C.
+// The record of a call, at the front of a host's buffer.
 ghost use Rattle.std.specs.Prelude.{◌≡◌};
 ghost use Rattle.record.specs.Write.{write_on};
 ghost use Rattle.writer.specs.Results.{written_code, written_length};
@@ -8,6 +8,7 @@ use crate::WrittenReply;
 use record::Fields;
 use writer::{Written, write_call};
 
+#[tactic(auto, unfolding(writer::specs::Results::written_code))]
 fn written_code(w: Written) -> u8
     ensures { result ≡ written_code w }
 {
@@ -18,6 +19,7 @@ fn written_code(w: Written) -> u8
     }
 }
 
+#[tactic(auto, unfolding(writer::specs::Results::written_length))]
 fn written_length(w: Written) -> usize
     ensures { result ≡ written_length w }
 {
@@ -29,8 +31,7 @@ fn written_length(w: Written) -> usize
 }
 
 // The record of a call, at the front of out.
-#[unsafe(no_mangle)]
-pub extern "C" fn caif_write(kind: u8, fields: Fields, bytes: &[u8], out: &mut [u8]) -> WrittenReply
+pub fn caif_write(kind: u8, fields: Fields, bytes: &[u8], out: &mut [u8]) -> WrittenReply
     ensures { lent_written result out.new ≡ write_on kind fields bytes.now out.old }
 {
     let w = write_call(kind, fields, bytes, out);

@@ -10,7 +10,4 @@ pub mod Answering
 pub mod Accurate
 pub mod Unasked
 pub mod Lists
-pub mod Slices
-pub mod Handed
-pub mod Entered
 pub mod Shifted

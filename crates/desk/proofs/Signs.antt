@@ -127,7 +127,7 @@ module _ {z : ℤ} (fits : SFits w16 z) where
   widens = subst (SFits w32) (sym (to_z-of_z fits)) (sfits_widen tt fits)
 
   pub widened : to_z w32 (of_z w32 (to_z w16 (of_z w16 z))) ≡ z
-  widened = ap (λ (y : ℤ). to_z w32 (of_z w32 y)) (to_z-of_z fits) ∙ to_z-of_z (sfits_widen tt fits)
+  widened = ap (λ (y : ℤ). to_z w32 (of_z w32 y)) (to_z-of_z fits) ∙ to_z-of_z {w = w32} (sfits_widen {w = w16} {w' = w32} tt fits)
 
 module _ {reading setpoint correction : ℤ} (fr : SFits w32 reading) (fs : SFits w32 setpoint) (fx : SFits w16 correction) (r : in_range reading ≡ true) (s : in_range setpoint ≡ true) (x : correction_in_range correction ≡ true) where
   abbrev sum : ℤ

@@ -1,4 +1,4 @@
-// The tank desk, over the box (document 02, P6): what include/caif.h declares of it.
+// The tank desk, over the box (document 02, P6): what the exports of crate desk_c call, each the function of its name.
 
 #![tactic(auto)]
 
@@ -91,8 +91,7 @@ pub struct Answers {
 }
 
 // One tank.
-#[unsafe(no_mangle)]
-pub extern "C" fn caif_desk(
+pub fn caif_desk(
     tank: Tank,
     held: BoxRecord,
     log: &mut [LogRow],
@@ -123,8 +122,7 @@ pub extern "C" fn caif_desk(
 }
 
 // A list of tanks, with as many answers: 0, or the number with which it is refused whole.
-#[unsafe(no_mangle)]
-pub extern "C" fn caif_shift(
+pub fn caif_shift(
     tanks: &[Tank],
     answers: &mut [TankAnswer],
     held: BoxRecord,

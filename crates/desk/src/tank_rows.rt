@@ -28,7 +28,7 @@ fn blank_rows() -> [Tank; 8]
     [blank; 8]
 }
 
-// A list is made and taken apart by covered functions, so that the walks by hand need not look into one.
+// A list is made and taken apart by functions of their own.
 fn tanks_of(rows: [Tank; 8]) -> Tanks
     ensures { result.rows ≡ rows }
 {
