@@ -1,4 +1,4 @@
-// Runs a script of records from standard input on a fresh level_one box (document 02, P5), and prints its answer sheet.
+// Runs a script of records from standard input on a fresh level-one box (document 02, P5), and prints its answer sheet.
 
 #![tactic(auto)]
 
