@@ -1,5 +1,5 @@
-/* The reference box, for hosts in C or C++. Link libcaif.a, which `rt staticlib caif` proves and writes to
- * target/staticlib/. The tank desk, caif_desk and caif_shift, is in libdesk.a, by `rt staticlib desk`; a host links either
+/* The reference box, for hosts in C or C++. Link libcaif.a, which `sh tools/build caif` proves and writes to
+ * target/staticlib/. The tank desk, caif_desk and caif_shift, is in libdesk.a, by `sh tools/build desk`; a host links either
  * or both. The archives are for the System V ABI of x86-64, little endian. This header asserts that the compiler lays each
  * struct out as they do, in C11 and C++11 and later; older compilers are not asked.
  *

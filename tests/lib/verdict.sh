@@ -36,7 +36,7 @@ stop() {
 # needs FILE..: stops where one of these is not built
 needs() {
     for file in "$@"; do
-        [ -f "$file" ] || stop "no $file: rt staticlib caif, rt staticlib desk and rt check build what tests need"
+        [ -f "$file" ] || stop "no $file: sh tools/build builds what tests need"
     done
 }
 

@@ -1,5 +1,5 @@
-//! Links the archive that `rt staticlib caif` writes, and with the feature `desk` the
-//! one that `rt staticlib desk` writes.
+//! Links the archive that `sh tools/build caif` writes, and with the feature `desk` the
+//! one that `sh tools/build desk` writes.
 
 use std::env;
 
