@@ -1,5 +1,5 @@
 -- What attest and check leave and answer, on the parts of the box that they are given.
-use Rattle.std.specs.Prelude.{ℕ, ◌+◌, not, ◌&&◌, cond, List, length, eqb}
+use Rattle.std.specs.Prelude.{ℕ, not, ◌&&◌, cond, List, length, eqb}
 use Rattle.fnv.specs.declared.Tag.{Tag}
 use Rattle.fnv.specs.Fnv.{tag_of}
 use Rattle.ideal.specs.declared.BoxRecord.{BoxRecord}

@@ -1,5 +1,5 @@
 -- What protect leaves and answers, on the parts of the box that it is given.
-use Rattle.std.specs.Prelude.{ℕ, ◌+◌, ◌^◌, List, length, eqb, leb}
+use Rattle.std.specs.Prelude.{ℕ, ◌^◌, List, length, eqb, leb}
 use Rattle.record.specs.declared.Draw.{Draw}
 use Rattle.ideal.specs.declared.BoxRecord.{BoxRecord}
 use Rattle.ideal.specs.declared.EscrowRow.{EscrowRow}

@@ -14,7 +14,7 @@ use Rattle.ideal.specs.declared.BoxRecord.{BoxRecord}
 use Rattle.ideal.specs.declared.EscrowRow.{EscrowRow}
 use Rattle.ideal.specs.declared.Used.{Used}
 use Rattle.ideal.specs.State.{any, position}
-use Rattle.ideal.specs.Step.{is_named, is_escrowed, absent, found, idle, tests, refusal, number, shown, effect, step}
+use Rattle.ideal.specs.Step.{is_named, is_escrowed, absent, found, idle, tests, refusal, number, shown, step}
 use Rattle.ideal.specs.Tables.{Tables, escrow_table, entries_of, tables, used_escrow, state_of}
 use Rattle.ideal.specs.Box.{laid}
 use Rattle.ideal.specs.Valid.{Valid}

@@ -6,7 +6,7 @@ use mathlib.Core.List.{List, [], ◌∷◌, ◌++◌, map, append_assoc}
 use native.Mathlib.Omega.{arith}
 use native.Mathlib.Nat.{add_comm}
 use native.Mathlib.Numerals.{add-one}
-use lib.ListN.{length, get_or, take, drop, set, replicate, length-append, length-drop, length-replicate, take-append-drop, replicate-append-replicate}
+use lib.ListN.{length, take, drop, set, replicate, length-append, length-drop, length-replicate, take-append-drop, replicate-append-replicate}
 use lib.Seq.{sets, sets-eq, drop-drop, drop-append-le}
 use borrow.Rule.Slice.PartMut.{put_mid, mid_of}
 use Rattle.lists.specs.Lists.{all_zero}
@@ -17,7 +17,6 @@ use Rattle.ideal.specs.OneCall.{moved_down}
 use Rattle.ideal.proofs.Table.{part_length, zeros}
 use Rattle.buffers.proofs.Loops.{part_replaced}
 use Rattle.state.specs.Edits.{edited, lowered_from}
-use Rattle.release.specs.Narrow.{taken_out}
 
 -- ---- value bytes
 

@@ -1,5 +1,4 @@
 use mathlib.Core.Path.{sym, ◌∙◌}
-use borrow.Author.Rules.{rules}
 use Rattle.ideal.specs.Step.{first_holding}
 use Rattle.state.specs.Answers.{settled}
 use Rattle.state.specs.Edits.{unless}

@@ -1,6 +1,5 @@
 use mathlib.Core.Path.{sym, ◌∙◌}
 use borrow.Author.Tests.{eq-eqb, ne_eqb}
-use borrow.Author.Rules.{rules}
 use Rattle.ideal.specs.Step.{first_holding}
 use Rattle.state.specs.Answers.{answered}
 use Rattle.attesting.specs.Narrow.{check_on}

@@ -1,4 +1,3 @@
-use borrow.Author.Rules.{rules}
 use Rattle.state.specs.Edits.{more}
 use Rattle.attesting.proofs.log_more.Goals as goal
 

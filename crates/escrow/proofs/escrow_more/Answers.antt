@@ -1,4 +1,3 @@
-use borrow.Author.Rules.{rules}
 use Rattle.state.specs.Edits.{more}
 use Rattle.escrow.proofs.escrow_more.Goals as goal
 

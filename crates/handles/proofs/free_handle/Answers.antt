@@ -1,4 +1,3 @@
-use borrow.Author.Rules.{rules}
 use Rattle.ideal.specs.State.{any}
 use Rattle.ideal.specs.Step.{free_from, free_handle}
 use Rattle.ideal.specs.Tables.{entries_of}

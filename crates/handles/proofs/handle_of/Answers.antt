@@ -1,5 +1,4 @@
 use mathlib.Core.Path.{refl}
-use borrow.Author.Rules.{rules}
 use Rattle.ideal.specs.Step.{handle_of}
 use Rattle.handles.proofs.handle_of.Goals as goal
 

@@ -2,7 +2,6 @@ use Prim.Native.Nat.{ℕ, ◌+◌, ◌*◌, ◌/◌, ◌%◌, ◌^◌}
 use mathlib.Core.Path.{◌≡◌, sym, ap, ◌∙◌}
 use native.Mathlib.Omega.{arith}
 use native.Mathlib.Nat.{add-mul-mod_self_left}
-use borrow.Author.Rules.{rules}
 use Rattle.ideal.specs.Step.{next}
 use Rattle.handles.proofs.next_draw.Goals as goal
 

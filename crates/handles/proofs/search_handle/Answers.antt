@@ -1,14 +1,12 @@
-use Prim.Native.Nat.{ℕ, ◌-◌, ◌^◌, ◌≤◌, ◌<◌}
-use mathlib.Core.Path.{◌≡◌, refl, sym, ap, ◌∙◌}
-use mathlib.Core.List.{List}
+use Prim.Native.Nat.{◌≤◌}
+use mathlib.Core.Path.{refl, sym, ap, ◌∙◌}
 use native.Mathlib.Omega.{arith}
 use lib.ListN.{length, take}
-use borrow.Author.Rules.{rules}
-use Rattle.ideal.specs.Step.{next, free_from, free_handle}
+use Rattle.ideal.specs.Step.{next, free_handle}
 use Rattle.ideal.specs.Tables.{escrow_table, entries_of}
 use Rattle.ideal.specs.Accuracy.{iterate}
 use Rattle.ideal.proofs.Free.{next_small}
-use Rattle.handles.proofs.Free.{UsedFrom, used_here, used_later, unused, free_here, free_later, free_last}
+use Rattle.handles.proofs.Free.{used_here, used_later, unused, free_here, free_later, free_last}
 use Rattle.handles.proofs.search_handle.Goals as goal
 
 pub draws-init : goal.draws-init

@@ -1,14 +1,10 @@
 use Prim.Native.Nat.{ℕ, ◌-◌, ◌^◌, ◌≤◌, ◌<◌}
-use mathlib.Core.Path.{◌≡◌, refl, sym, ap, ◌∙◌}
+use mathlib.Core.Path.{◌≡◌}
 use mathlib.Core.List.{List}
-use native.Mathlib.Omega.{arith}
-use lib.ListN.{length, take}
-use borrow.Author.Rules.{rules}
-use Rattle.ideal.specs.Step.{next, free_from, free_handle}
+use lib.ListN.{take}
+use Rattle.ideal.specs.Step.{free_from, free_handle}
 use Rattle.ideal.specs.Tables.{escrow_table, entries_of}
-use Rattle.ideal.specs.Accuracy.{iterate}
-use Rattle.ideal.proofs.Free.{next_small}
-use Rattle.handles.proofs.Free.{UsedFrom, used_here, used_later, unused, free_here, free_later, free_last}
+use Rattle.handles.proofs.Free.{UsedFrom}
 use Rattle.handles.proofs.search_handle.Given as goal
 
 abbrev pub invariant-loop-i : goal.invariant-loop-i

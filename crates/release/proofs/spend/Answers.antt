@@ -1,4 +1,3 @@
-use borrow.Author.Rules.{rules}
 use Rattle.ideal.specs.OneCall.{spent_row}
 use Rattle.release.proofs.spend.Goals as goal
 

@@ -1,20 +1,11 @@
 use Prim.Native.Nat.{ℕ, ◌+◌, ◌-◌, ◌≤◌}
-use mathlib.Core.Path.{◌≡◌, refl, sym, ap, ◌∙◌}
-use mathlib.Core.Bool.{Bool}
-use mathlib.Core.List.{List, []}
-use native.Mathlib.Nat.{zero-add, add-zero}
-use native.Mathlib.Omega.{arith}
-use lib.ListN.{length, get_or, take, drop, length-take}
-use lib.Seq.{drop-length}
-use borrow.Author.Rules.{rules}
-use Rattle.record.specs.declared.Handle.{Handle}
-use Rattle.ideal.specs.declared.EscrowRow.{EscrowRow}
+use mathlib.Core.Path.{◌≡◌}
+use mathlib.Core.List.{List}
+use lib.ListN.{take, drop}
 use Rattle.ideal.specs.State.{find, position}
-use Rattle.ideal.specs.Step.{is_named, is_escrowed}
-use Rattle.ideal.specs.Tables.{escrow_table, entry_of, entries_of}
+use Rattle.ideal.specs.Step.{is_escrowed}
+use Rattle.ideal.specs.Tables.{escrow_table, entries_of}
 use Rattle.ideal.specs.Refusals.{is_row}
-use Rattle.retrieval.specs.Search.{entry_found, sought, FoundWithin, index_found}
-use Rattle.lists.proofs.Lists.{one_on}
 use Rattle.retrieval.proofs.find_row.Given as goal
 
 abbrev pub invariant-loop-i : goal.invariant-loop-i

@@ -3,7 +3,6 @@ use mathlib.Core.Bool.{false}
 use native.Mathlib.Nat.{add-sub_cancel_left}
 use native.Mathlib.Omega.{arith}
 use lib.Dec.{eqb}
-use borrow.Author.Rules.{rules}
 use borrow.Author.Tests.{eq-eqb, ne_eqb, lt-ltb, le-ltb}
 use Rattle.ideal.specs.Step.{absent, first_holding}
 use Rattle.state.specs.Answers.{settled, answered}
