@@ -1,9 +1,7 @@
 -- Of the cycle of calls of escrowed_link and logged_link.
-use Prim.Native.Nat.{◌-◌}
 use native.Mathlib.Omega.{arith}
 use mathlib.Core.Path.{refl, ◌∙◌}
 use lib.ListN.{drop}
-use borrow.Author.Rules.{rules}
 use Rattle.record.specs.Call.{logged_link, escrowed_link}
 use Rattle.chain.specs.Meaning.{in_chain, in_escrow, ValueWithin}
 use Rattle.chain.specs.Columns.{log_in, found_in}

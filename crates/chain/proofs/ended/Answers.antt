@@ -1,4 +1,3 @@
-use borrow.Author.Rules.{rules}
 use borrow.Author.Tests.{eq-eqb, ne_eqb}
 use Rattle.ideal.specs.Step.{first_holding}
 use Rattle.state.specs.Answers.{answered}

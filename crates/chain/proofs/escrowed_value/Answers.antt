@@ -1,13 +1,12 @@
-use Prim.Native.Nat.{ℕ, ◌≤◌, ◌-◌}
-use mathlib.Core.List.{List}
+use Prim.Native.Nat.{◌-◌}
 use mathlib.Core.Path.{◌≡◌, refl, sym, ◌∙◌}
 use native.Mathlib.Nat.{add-sub_cancel_left}
 use native.Mathlib.Omega.{arith}
-use Rattle.ideal.specs.Tables.{escrow_table, entries_of}
+use Rattle.ideal.specs.Tables.{entries_of}
 use Rattle.record.specs.Call.{escrowed_link, identity_of}
-use Rattle.ideal.specs.Step.{is_escrowed, absent, value_in, unreadable, unvouched, link_value, bytes_after}
+use Rattle.ideal.specs.Step.{absent, value_in, unreadable, unvouched, link_value, bytes_after}
 use Rattle.ideal.specs.State.{find}
-use Rattle.chain.specs.Columns.{escrowed_row, rows_from, found_in}
+use Rattle.chain.specs.Columns.{escrowed_row, found_in}
 use Rattle.chain.specs.Meaning.{in_escrow, ValueWithin}
 use Rattle.chain.proofs.Rows.{rows_step, rows_end}
 use Rattle.chain.proofs.Links.{nobody, unknown, known}

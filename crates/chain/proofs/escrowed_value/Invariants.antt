@@ -1,16 +1,10 @@
 use Prim.Native.Nat.{ℕ, ◌≤◌, ◌-◌}
 use mathlib.Core.List.{List}
-use mathlib.Core.Path.{◌≡◌, refl, sym, ◌∙◌}
-use native.Mathlib.Nat.{add-sub_cancel_left}
-use native.Mathlib.Omega.{arith}
+use mathlib.Core.Path.{◌≡◌}
 use Rattle.ideal.specs.Tables.{escrow_table, entries_of}
-use Rattle.record.specs.Call.{escrowed_link, identity_of}
-use Rattle.ideal.specs.Step.{is_escrowed, absent, value_in, unreadable, unvouched, link_value, bytes_after}
+use Rattle.ideal.specs.Step.{is_escrowed}
 use Rattle.ideal.specs.State.{find}
 use Rattle.chain.specs.Columns.{escrowed_row, rows_from, found_in}
-use Rattle.chain.specs.Meaning.{in_escrow, ValueWithin}
-use Rattle.chain.proofs.Rows.{rows_step, rows_end}
-use Rattle.chain.proofs.Links.{nobody, unknown, known}
 use Rattle.chain.proofs.escrowed_value.Given as goal
 
 abbrev pub invariant-loop-i : goal.invariant-loop-i

@@ -1,5 +1,4 @@
 use mathlib.Core.Path.{refl, ◌∙◌}
-use borrow.Author.Rules.{rules}
 use Rattle.record.specs.Meaning.{link_in}
 use Rattle.ideal.specs.Step.{unreadable}
 use Rattle.chain.proofs.Links.{first_fits, none_runs, by_columns, no_way}

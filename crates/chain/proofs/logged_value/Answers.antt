@@ -2,7 +2,6 @@ use Prim.Native.Nat.{ℕ, ◌-◌, ◌≤◌}
 use mathlib.Core.Path.{◌≡◌, sym, ap, ◌∙◌}
 use mathlib.Core.List.{List}
 use lib.ListN.{length, take, drop}
-use borrow.Author.Rules.{rules}
 use Rattle.record.specs.Layout.{gives}
 use Rattle.record.specs.Call.{identity_of}
 use Rattle.ideal.specs.Step.{unreadable, unvouched, link_value, bytes_after}

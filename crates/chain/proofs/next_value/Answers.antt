@@ -1,4 +1,3 @@
-use borrow.Author.Rules.{rules}
 use Rattle.buffers.specs.Counted.{CountedWithin}
 use Rattle.chain.specs.Meaning.{in_chain, ValueWithin}
 use Rattle.chain.proofs.Bytes.{next_cut_lem, next_whole}

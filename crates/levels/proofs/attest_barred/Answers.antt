@@ -4,7 +4,6 @@ use native.Mathlib.Nat.{add-sub_cancel_left}
 use borrow.Author.Tests.{eq-eqb, ne_eqb, lt-ltb, le-ltb}
 use Rattle.ideal.specs.Step.{beyond}
 use Rattle.levels.specs.Narrow.{attest_barred}
-use borrow.Author.Rules.{rules}
 use Rattle.levels.proofs.attest_barred.Goals as goal
 
 pub returns-then-held-eq16 : goal.returns-then-held-eq16

@@ -1,6 +1,5 @@
 use Rattle.levels.specs.Narrow.{barred_on}
 use Rattle.levels.proofs.Rest.{none_else}
-use borrow.Author.Rules.{rules}
 use Rattle.levels.proofs.barred_with.Goals as goal
 
 pub returns-in-Create : goal.returns-in-Create

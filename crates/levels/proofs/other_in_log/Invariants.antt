@@ -1,13 +1,9 @@
 use Prim.Native.Nat.{◌≤◌, ◌-◌}
-use mathlib.Core.Path.{◌≡◌, refl, sym, ◌∙◌}
-use native.Mathlib.Omega.{arith}
-use lib.Seq.{drop-length}
-use lib.ListN.{length, take, drop, length-take}
-use Rattle.ideal.specs.Fit.{RowsFit}
+use mathlib.Core.Path.{◌≡◌}
+use lib.ListN.{take, drop}
 use Rattle.ideal.specs.Tables.{log_table, entries_of}
 use Rattle.ideal.specs.LevelOne.{is_other}
 use Rattle.ideal.specs.State.{any}
-use Rattle.pairs.proofs.Search.{search_step}
 use Rattle.levels.proofs.other_in_log.Given as goal
 
 abbrev pub invariant-loop-i : goal.invariant-loop-i

@@ -1,5 +1,4 @@
 use Rattle.levels.specs.Narrow.{own_refusal}
-use borrow.Author.Rules.{rules}
 use Rattle.levels.proofs.own_refusal.Goals as goal
 
 pub returns-in-Full : goal.returns-in-Full

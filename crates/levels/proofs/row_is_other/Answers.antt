@@ -3,7 +3,6 @@ use mathlib.Core.Bool.{not}
 use native.Mathlib.Nat.{add-sub_cancel_left}
 use borrow.Author.Tests.{eq-eqb, ne_eqb}
 use Rattle.ideal.specs.LevelOne.{is_other}
-use borrow.Author.Rules.{rules}
 use Rattle.levels.proofs.row_is_other.Goals as goal
 
 pub returns-then-row-identity : goal.returns-then-row-identity

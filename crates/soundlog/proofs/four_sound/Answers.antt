@@ -2,8 +2,6 @@ use Prim.Native.Nat.{◌+◌}
 use mathlib.Core.Path.{sym, ◌∙◌}
 use native.Mathlib.Omega.{arith}
 use lib.ListN.{length}
-use borrow.Author.Tests.{not-true, not-false}
-use borrow.Author.Rules.{rules}
 use Rattle.soundlog.specs.Placed.{rows_placed, placed_and_tagged}
 use Rattle.soundlog.proofs.Placed.{placed_within, four_right}
 use Rattle.soundlog.proofs.four_sound.Goals as goal

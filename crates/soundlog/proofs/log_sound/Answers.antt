@@ -2,8 +2,7 @@ use Prim.Native.Nat.{◌≤◌}
 use mathlib.Core.Path.{sym, ◌∙◌}
 use native.Mathlib.Omega.{arith}
 use lib.ListN.{length, take}
-use borrow.Author.Tests.{le-leb, lt-leb, not-true, not-false}
-use borrow.Author.Rules.{rules}
+use borrow.Author.Tests.{le-leb, lt-leb}
 use Rattle.ideal.proofs.Fit.{fits_less, chain_fits}
 use Rattle.lists.proofs.Bools.{and_left}
 use Rattle.buffers.proofs.Loops.{to_end}

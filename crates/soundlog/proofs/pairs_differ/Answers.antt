@@ -1,5 +1,4 @@
-use Prim.Native.Nat.{ℕ, ◌-◌, ◌≤◌}
-use mathlib.Core.Logic.{⊎_elim}
+use Prim.Native.Nat.{ℕ, ◌≤◌}
 use mathlib.Core.Bool.{true}
 use mathlib.Core.List.{List}
 use mathlib.Core.Path.{◌≡◌, refl, sym, ◌∙◌}
@@ -7,7 +6,6 @@ use native.Mathlib.Omega.{arith}
 use native.Mathlib.Nat.{add-sub_cancel_left}
 use lib.Dec.{eqb}
 use lib.ListN.{length, get_or}
-use borrow.Author.Rules.{rules}
 use borrow.Author.Tests.{eqb-true}
 use Rattle.ideal.specs.Fit.{RowsFit}
 use Rattle.ideal.specs.Step.{is_logged}
@@ -15,7 +13,7 @@ use Rattle.ideal.specs.Tables.{log_table, entry_of}
 use Rattle.ideal.specs.declared.LogRow.{LogRow}
 use Rattle.lists.proofs.Bools.{and_left, and_right}
 use Rattle.soundness.specs.Tests.{same_logged}
-use Rattle.soundness.proofs.Seen.{slot_of, slot_within, Seen, none_seen, seen_more, LikeFrom, DifferFrom, from_first, unseen, like_later, differ_not, differ_later, differ_all}
+use Rattle.soundness.proofs.Seen.{slot_of, slot_within, none_seen, seen_more, from_first, unseen, like_later, differ_not, differ_later, differ_all}
 use Rattle.soundlog.proofs.pairs_differ.Goals as goal
 use Rattle.soundlog.proofs.pairs_differ.Goals.{then-seen-slot-eq0, else-seen-slot-eq0}
 use Rattle.soundlog.proofs.pairs_differ.Invariants.{number}

@@ -1,5 +1,4 @@
 use borrow.Author.Tests.{eq-eqb, ne_eqb, le-leb, lt-leb}
-use borrow.Author.Rules.{rules}
 use Rattle.ideal.specs.Soundness.{has_identity}
 use Rattle.soundlog.specs.Placed.{row_placed}
 use Rattle.soundlog.proofs.row_placed.Goals as goal

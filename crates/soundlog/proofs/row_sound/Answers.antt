@@ -1,8 +1,6 @@
 use mathlib.Core.Path.{sym, ap, ◌∙◌}
 use native.Mathlib.Omega.{arith}
 use lib.ListN.{length}
-use borrow.Author.Tests.{not-true, not-false}
-use borrow.Author.Rules.{rules}
 use Rattle.fnv.specs.declared.Tag.{Tag}
 use Rattle.soundlog.proofs.Placed.{row_parts, placed_within, placed_tag}
 use Rattle.soundlog.proofs.row_sound.Goals as goal

@@ -1,13 +1,9 @@
-use Prim.Native.Nat.{ℕ, ◌+◌, ◌*◌, ◌-◌, ◌≤◌}
+use Prim.Native.Nat.{◌+◌, ◌≤◌}
 use mathlib.Core.Path.{sym, ◌∙◌, ◌≡◌, refl}
-use mathlib.Core.List.{List}
 use native.Mathlib.Omega.{arith}
-use lib.ListN.{length, take, drop}
-use borrow.Author.Tests.{not-true, not-false}
-use borrow.Author.Rules.{rules}
-use Rattle.ideal.specs.declared.LogRow.{LogRow}
+use lib.ListN.{length}
 use Rattle.ideal.specs.Tables.{log_table}
-use Rattle.soundness.specs.Tests.{rows_sound, log_row_right}
+use Rattle.soundness.specs.Tests.{log_row_right}
 use Rattle.soundness.proofs.Rows.{rows_step, rows_ended}
 use Rattle.soundlog.proofs.Placed.{row_at, four_step, four_end}
 use Rattle.soundlog.proofs.rows_sound.Goals as goal

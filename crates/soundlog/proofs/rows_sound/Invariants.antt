@@ -1,15 +1,10 @@
-use Prim.Native.Nat.{ℕ, ◌+◌, ◌*◌, ◌-◌, ◌≤◌}
-use mathlib.Core.Path.{sym, ◌∙◌, ◌≡◌, refl}
+use Prim.Native.Nat.{ℕ, ◌*◌, ◌-◌, ◌≤◌}
+use mathlib.Core.Path.{◌≡◌}
 use mathlib.Core.List.{List}
-use native.Mathlib.Omega.{arith}
-use lib.ListN.{length, take, drop}
-use borrow.Author.Tests.{not-true, not-false}
-use borrow.Author.Rules.{rules}
+use lib.ListN.{take, drop}
 use Rattle.ideal.specs.declared.LogRow.{LogRow}
 use Rattle.ideal.specs.Tables.{log_table}
 use Rattle.soundness.specs.Tests.{rows_sound, log_row_right}
-use Rattle.soundness.proofs.Rows.{rows_step, rows_ended}
-use Rattle.soundlog.proofs.Placed.{row_at, four_step, four_end}
 use Rattle.soundlog.proofs.rows_sound.Given as goal
 
 -- the rows to come are sound from `at` on just where all are from 0 on

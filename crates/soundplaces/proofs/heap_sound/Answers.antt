@@ -1,5 +1,4 @@
 use borrow.Author.Tests.{eq-eqb, ne_eqb}
-use borrow.Author.Rules.{rules}
 use Rattle.soundplaces.proofs.heap_sound.Goals as goal
 
 pub returns-then-identity-ne0 : goal.returns-then-identity-ne0

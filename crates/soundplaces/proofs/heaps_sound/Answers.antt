@@ -1,13 +1,10 @@
-use Prim.Native.Nat.{◌*◌, ◌≤◌, ◌-◌}
+use Prim.Native.Nat.{◌*◌}
 use mathlib.Core.Path.{sym, ◌∙◌, ◌≡◌, refl}
 use native.Mathlib.Nat.{add-sub_cancel_left}
 use native.Mathlib.Omega.{arith}
 use lib.Seq.{drop-length}
-use lib.ListN.{length, drop}
-use borrow.Author.Tests.{not-true, not-false}
-use borrow.Author.Rules.{rules}
+use lib.ListN.{length}
 use Rattle.ideal.specs.Soundness.{empty_heaps_zero}
-use Rattle.ideal.specs.Tables.{chunks}
 use Rattle.soundness.proofs.MapAndHeaps.{heap_step}
 use Rattle.soundplaces.proofs.heaps_sound.Goals as goal
 

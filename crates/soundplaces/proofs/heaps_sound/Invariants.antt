@@ -1,14 +1,8 @@
-use Prim.Native.Nat.{◌*◌, ◌≤◌, ◌-◌}
-use mathlib.Core.Path.{sym, ◌∙◌, ◌≡◌, refl}
-use native.Mathlib.Nat.{add-sub_cancel_left}
-use native.Mathlib.Omega.{arith}
-use lib.Seq.{drop-length}
-use lib.ListN.{length, drop}
-use borrow.Author.Tests.{not-true, not-false}
-use borrow.Author.Rules.{rules}
+use Prim.Native.Nat.{◌≤◌, ◌-◌}
+use mathlib.Core.Path.{◌≡◌}
+use lib.ListN.{drop}
 use Rattle.ideal.specs.Soundness.{empty_heaps_zero}
 use Rattle.ideal.specs.Tables.{chunks}
-use Rattle.soundness.proofs.MapAndHeaps.{heap_step}
 use Rattle.soundplaces.proofs.heaps_sound.Given as goal
 
 -- the places to come are right just where all are

@@ -1,7 +1,6 @@
 use Prim.Native.Nat.{◌<◌, ◌≤◌, ◌/◌, ◌^◌}
 use native.Mathlib.Omega.{arith}
 use borrow.Author.Tests.{eq-eqb, ne_eqb, lt-ltb, le-ltb}
-use borrow.Author.Rules.{rules}
 use lib.Bits.{and_mask}
 use Rattle.record.specs.Layout.{stands}
 use Rattle.soundplaces.proofs.running_taken.Goals as goal

@@ -1,10 +1,7 @@
-use Prim.Native.Nat.{◌<◌, ◌+◌, ◌-◌, ◌≤◌}
-use mathlib.Core.Path.{sym, ap, ◌≡◌}
-use native.Mathlib.Omega.{arith}
-use lib.ListN.{drop_of_length-le, get_or, length, drop}
-use borrow.Author.Rules.{rules}
+use Prim.Native.Nat.{◌≤◌}
+use mathlib.Core.Path.{◌≡◌}
+use lib.ListN.{drop}
 use Rattle.ideal.specs.Tables.{taken_map}
-use Rattle.soundness.proofs.MapAndHeaps.{map_step, map_rest, bit_small}
 use Rattle.soundplaces.proofs.taken_map.Given as goal
 
 -- the map of the places from i on

@@ -1,9 +1,8 @@
-use Prim.Native.Nat.{◌≤◌, ◌<◌, ◌-◌}
+use Prim.Native.Nat.{◌<◌}
 use mathlib.Core.Path.{refl}
 use native.Mathlib.Omega.{arith}
-use borrow.Author.Rules.{rules}
 use Rattle.ideal.specs.Tables.{log_table, escrow_table}
-use Rattle.chain.proofs.Rows.{Filled, filled_more, rows_are}
+use Rattle.chain.proofs.Rows.{filled_more, rows_are}
 use Rattle.chain.proofs.columns.columns_of.Goals as goal
 
 pub loop-i-init : goal.loop-i-init

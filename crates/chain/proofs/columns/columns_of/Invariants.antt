@@ -1,9 +1,5 @@
-use Prim.Native.Nat.{◌≤◌, ◌<◌, ◌-◌}
-use mathlib.Core.Path.{refl}
-use native.Mathlib.Omega.{arith}
-use borrow.Author.Rules.{rules}
-use Rattle.ideal.specs.Tables.{log_table, escrow_table}
-use Rattle.chain.proofs.Rows.{Filled, filled_more, rows_are}
+use Prim.Native.Nat.{◌≤◌, ◌-◌}
+use Rattle.chain.proofs.Rows.{Filled}
 use Rattle.chain.proofs.columns.columns_of.Given as goal
 
 abbrev pub invariant-loop-i : goal.invariant-loop-i

@@ -1,5 +1,4 @@
 use borrow.Author.Tests.{eq-eqb, ne_eqb}
-use borrow.Author.Rules.{rules}
 use Rattle.ideal.specs.Step.{is_named, is_escrowed}
 use Rattle.chain.proofs.columns.escrowed_at.Goals as goal
 

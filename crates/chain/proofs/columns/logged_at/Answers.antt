@@ -1,6 +1,5 @@
 use native.Mathlib.Nat.{add-sub_cancel_left}
 use borrow.Author.Tests.{eq-eqb, ne_eqb}
-use borrow.Author.Rules.{rules}
 use Rattle.ideal.specs.Step.{is_logged}
 use Rattle.chain.proofs.columns.logged_at.Goals as goal
 

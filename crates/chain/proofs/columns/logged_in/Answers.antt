@@ -1,10 +1,10 @@
-use Prim.Native.Nat.{◌-◌, ◌≤◌}
+use Prim.Native.Nat.{◌-◌}
 use mathlib.Core.Path.{◌≡◌, sym, ◌∙◌}
 use native.Mathlib.Omega.{arith}
 use Rattle.ideal.specs.State.{any}
 use Rattle.ideal.specs.Step.{logged}
-use Rattle.ideal.specs.Tables.{log_table, entries_of}
-use Rattle.chain.specs.Columns.{logged_row, rows_from}
+use Rattle.ideal.specs.Tables.{entries_of}
+use Rattle.chain.specs.Columns.{logged_row}
 use Rattle.chain.proofs.Rows.{rows_step, rows_end}
 use Rattle.chain.proofs.columns.logged_in.Goals as goal
 

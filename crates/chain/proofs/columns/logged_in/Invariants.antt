@@ -1,11 +1,8 @@
 use Prim.Native.Nat.{◌-◌, ◌≤◌}
-use mathlib.Core.Path.{◌≡◌, sym, ◌∙◌}
-use native.Mathlib.Omega.{arith}
-use Rattle.ideal.specs.State.{any}
+use mathlib.Core.Path.{◌≡◌}
 use Rattle.ideal.specs.Step.{logged}
 use Rattle.ideal.specs.Tables.{log_table, entries_of}
 use Rattle.chain.specs.Columns.{logged_row, rows_from}
-use Rattle.chain.proofs.Rows.{rows_step, rows_end}
 use Rattle.chain.proofs.columns.logged_in.Given as goal
 
 abbrev pub invariant-loop-i : goal.invariant-loop-i
