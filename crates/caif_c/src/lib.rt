@@ -67,8 +67,8 @@ pub extern "C" fn caif_call_lent(
     output: &mut [u8],
     bytes: &[u8],
 ) -> Answer
-    ensures { lent_result (record { held = held.exit.now; answer = result }) log.new escrow.new heaps.new shared.new log_values.new escrow_values.new output.new
-        ≡ entry_on call_on (lent_tables held.entry.now log.old escrow.old heaps.old shared.old log_values.old escrow_values.old)
+    ensures { lent_result (record { held = held.new; answer = result }) log.new escrow.new heaps.new shared.new log_values.new escrow_values.new output.new
+        ≡ entry_on call_on (lent_tables held.old log.old escrow.old heaps.old shared.old log_values.old escrow_values.old)
         bytes.now output.old }
 {
     caif::caif_call_lent(
