@@ -74,7 +74,7 @@ pub fn caif_call(
     )
 }
 
-// The same on the level_one box (document 02, P5).
+// The same on the level-one box (document 02, P5).
 pub fn caif_call_level_one(
     held: BoxRecord,
     log: &mut [LogRow],

@@ -17,7 +17,6 @@ use Rattle.state.specs.declared.LogTable.{LogTable}
 use Rattle.state.specs.declared.EscrowTable.{EscrowTable}
 use Rattle.state.specs.declared.Answer.{Answer}
 use Rattle.state.specs.declared.Change.{Change}
-use Rattle.state.specs.Answers.{settled}
 use Rattle.state.specs.Edits.{unchanged, EditsBy, Stored, stored}
 use Rattle.services.specs.Narrow.{create_on, exit_on, exit_heaps, report_on, hand_over_on}
 use Rattle.shared.specs.Narrow.{shared_write_answer, shared_write_shared, shared_read_answer, shared_read_output}

@@ -2,7 +2,7 @@
 use Prim.Native.Nat.{ℕ, ◌≤◌}
 use mathlib.Core.Path.{◌≡◌}
 use lib.ListN.{length}
-use Rattle.ideal.specs.Tables.{Tables, log_table, escrow_table, taken_map, state_of}
+use Rattle.ideal.specs.Tables.{Tables, log_table, escrow_table, taken_map}
 use Rattle.ideal.specs.Layouts.{Sound}
 use Rattle.ideal.proofs.Facts.{facts, output_size_lem}
 use Rattle.ideal.proofs.Laid.{valid_sound, tables_state}

@@ -1,4 +1,4 @@
--- An attest on a level_one box: 23 exactly where its program has logged another value, and so each logs one. Assumes nothing.
+-- An attest on a level-one box: 23 exactly where its program has logged another value, and so each logs one. Assumes nothing.
 use Prim.Native.Nat.{ℕ, ◌+◌, ◌≤◌, ◌<◌}
 use mathlib.Core.Path.{◌≡◌, refl, sym, ap, ◌∙◌, subst}
 use mathlib.Core.Logic.{◌↔◌}

@@ -1,4 +1,4 @@
--- One call on a level_one box: what the full box promises of it. Assumes nothing.
+-- One call on a level-one box: what the full box promises of it. Assumes nothing.
 use Prim.Native.Nat.{ℕ}
 use mathlib.Core.Path.{◌≡◌, refl, sym, ap, ◌∙◌}
 use mathlib.Core.Bool.{true, false, true≢false, false≢true}

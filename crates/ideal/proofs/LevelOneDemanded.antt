@@ -1,4 +1,4 @@
--- The demands, of the level_one box. Assumes nothing.
+-- The demands, of the level-one box. Assumes nothing.
 use Rattle.ideal.specs.LevelOne.{level_one_on}
 use Rattle.ideal.specs.LevelOneDemands.{LevelOneDemands}
 use Rattle.ideal.proofs.LevelOneCalls.{else_full, level_one_stays_sound, alters_nothing, none_five, only_one_numbered, exactly_missing, answers_accepted, calls_accepted, alters_released, first_free_handle, long_check_no}

@@ -1,4 +1,4 @@
--- A box that keeps what is promised of a level_one box's calls is the level_one box, on any tables. Assumes nothing.
+-- A box that keeps what is promised of a level-one box's calls is the level-one box, on any tables. Assumes nothing.
 use mathlib.Core.Path.{◌≡◌, refl, sym, ◌∙◌}
 use mathlib.Core.Bool.{false≢true}
 use Rattle.ideal.specs.State.{any}

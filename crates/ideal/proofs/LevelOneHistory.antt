@@ -1,4 +1,4 @@
--- Runs of a box that is the level_one box at some elements and the full one at the others, or the level_one box at all: what is
+-- Runs of a box that is the level-one box at some elements and the full one at the others, or the level-one box at all: what is
 -- said of history, and where it yields to the three refusals. Assumes nothing.
 use Prim.Native.Nat.{ℕ}
 use mathlib.Core.Path.{◌≡◌, refl, sym, ap, ◌∙◌}
@@ -31,7 +31,7 @@ use Rattle.ideal.proofs.OneAnswer.{code_is}
 use Rattle.ideal.proofs.Yields.{as_full, barred, yields}
 use Rattle.ideal.proofs.StandIns.{Turns, in_full, bars, Reaches, fs, tables_before_lem as tables-in-full, history_kept, reports_kept, handles_once, check_kept}
 
--- ---- a box that is the level_one box at these elements, and the full one at the others
+-- ---- a box that is the level-one box at these elements, and the full one at the others
 
 pub data Either (box : Tables → Element → Result) (One : Element → Type 0) (t : Tables) (e : Element) : Type 0 where
   is_full_lem : (One e → ⊥) → box t e ≡ call_on t e → Either box One t e
@@ -125,7 +125,7 @@ module _ {box : Tables → Element → Result} {One : Element → Type 0} (eithe
         never_accepted : (answer_at box es k).code ≡ 0 → ⊥
         never_accepted q = let z = sym refuses_escrow ∙ ((code_at 0 (λ z. omega arith)).0 q).1 in omega arith
 
--- ---- the level_one box
+-- ---- the level-one box
 
 pub all_one : (t : Tables) (e : Element) → Either level_one_on (λ e. e ≡ e) t e
 all_one t e = is_one refl refl

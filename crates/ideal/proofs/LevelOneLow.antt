@@ -1,4 +1,4 @@
--- After any run of a level_one box the places above 3 are empty and do not run, and the escrow is empty: so say the moves of
+-- After any run of a level-one box the places above 3 are empty and do not run, and the escrow is empty: so say the moves of
 -- its accepted calls. Assumes nothing.
 use Prim.Native.Nat.{ℕ, ◌≤◌, ◌<◌}
 use mathlib.Core.Path.{◌≡◌, refl, sym, ap, ◌∙◌}
@@ -26,7 +26,7 @@ use Rattle.ideal.proofs.OneAnswer.{box_settles}
 use Rattle.ideal.proofs.LevelOneCalls.{full_with}
 use Rattle.ideal.proofs.LevelOneHistory.{holds}
 
--- a place of a level_one box, or none
+-- a place of a level-one box, or none
 low_or_none : ℕ → Bool
 low_or_none p = leb p 3 || eqb p 16
 

@@ -1,4 +1,4 @@
--- Demand 3 of the level_one box: in two runs the same calls are barred, with the same numbers. Assumes nothing.
+-- Demand 3 of the level-one box: in two runs the same calls are barred, with the same numbers. Assumes nothing.
 use Prim.Native.Nat.{ℕ}
 use mathlib.Core.Path.{◌≡◌, refl, sym, ap, ◌∙◌, subst, subst₂}
 use mathlib.Core.Bool.{Bool, true, false, false≢true}
@@ -26,7 +26,7 @@ use Rattle.ideal.proofs.FakedSecret.{Keeps, secret, premise_as, keeps_call, keep
 use Rattle.ideal.proofs.OwnRefusals.{then23, barred_with}
 use Rattle.ideal.proofs.Yields.{barred_reading, barred_in, as_full, barred, yields}
 
--- ---- the level_one box, by level one's own refusal
+-- ---- the level-one box, by level one's own refusal
 
 pub full_where : (t : Tables) (e : Element) → eqb (barred_in t e) 0 ≡ true → level_one_on t e ≡ call_on t e
 full_where t e h =

@@ -1,4 +1,4 @@
--- Demand 3's premises are met on a level_one box by two lists that differ: none of their calls is barred. Assumes nothing.
+-- Demand 3's premises are met on a level-one box by two lists that differ: none of their calls is barred. Assumes nothing.
 use Prim.Native.Nat.{ℕ, zero, suc, ◌<◌}
 use mathlib.Core.Path.{◌≡◌, refl, sym, ap, ◌∙◌}
 use mathlib.Core.List.{List, [], ◌∷◌, map}

@@ -1,4 +1,4 @@
--- A call on a level_one box: what the full box does, or level one's own refusal of it. Assumes nothing.
+-- A call on a level-one box: what the full box does, or level one's own refusal of it. Assumes nothing.
 use Prim.Native.Nat.{ℕ, zero, suc}
 use mathlib.Core.Path.{◌≡◌, refl, sym, ap, ◌∙◌}
 use mathlib.Core.Bool.{false, ◌&&◌, cond, true≢false}

@@ -52,7 +52,7 @@ module _ (box : Tables → Element → Result) where
     pub handles_once : HandleOnce box
     pub holds : HistoryHolds box
     pub reports : Reports box
-    -- a call of the full profile says what it says on a full box, whatever level_one calls came before it
+    -- a call of the full profile says what it says on a full box, whatever level-one calls came before it
     pub retrieves : (es : List Element) (k source offset : ℕ) (handle : Handle) (used : ℕ)
         → ReadIn Full es k (retrieve source offset handle) used → RetrieveAt box es k source offset handle
     pub releases : (es : List Element) (k source : ℕ) (handle : Handle) (used : ℕ)

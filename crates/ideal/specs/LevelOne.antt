@@ -1,4 +1,4 @@
--- The level_one paper (document 02, P5): places 0 to 3, no escrow, one value logged by each identity. It is the full box with
+-- The level-one paper (document 02, P5): places 0 to 3, no escrow, one value logged by each identity. It is the full box with
 -- three tests put in; and its numbers a second time, on the host's tables.
 use Rattle.std.specs.Prelude.{ℕ, Bool, true, not, ◌&&◌, ◌||◌, cond, List, [], ◌∷◌, eqb, ltb}
 use Rattle.record.specs.Call.{Call, create, exit, heap_write, heap_read, shared_write, shared_read, attest, check, protect, retrieve, report, hand_over, chain, release}
@@ -49,7 +49,7 @@ level_one_tests s (release i h) = (21, true) then tests s (release i h)
 unfoldable pub level_one_refusal : State → Call → ℕ
 level_one_refusal s c = first_holding (level_one_tests s c)
 
--- the level_one box
+-- the level-one box
 abbrev pub level_one_on : Tables → Element → Result
 level_one_on = box_by level_one_refusal
 

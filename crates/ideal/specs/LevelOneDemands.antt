@@ -1,4 +1,4 @@
--- What is demanded of a box for level_one papers (document 02, P5): it is the full box, but for three refusals at their places;
+-- What is demanded of a box for level-one papers (document 02, P5): it is the full box, but for three refusals at their places;
 -- and the three demands, where accuracy yields to these refusals. That fixes the box.
 use Rattle.std.specs.Prelude.{ℕ, ◌+◌, ◌≤◌, ◌<◌, ◌≡◌, ◌↔◌, Bool, true, false, List, [], ◌∷◌, map, get_or}
 use Rattle.fnv.specs.declared.Tag.{Tag}
@@ -115,7 +115,7 @@ module _ (box : Tables → Element → Result) where
 
   -- demand 2, over runs of this box from a fresh box; what demand 2 says of any box, of any
   pub record LevelOneAccuracy : Type 0 where
-    -- of one call, by the level_one table
+    -- of one call, by the level-one table
     pub call : EachCallBy level_one_conditions box
     -- word for word
     pub checks : CheckIsAccurate box

@@ -42,7 +42,7 @@ with_shared t shared =
       escrow_values = t.escrow_values;
     }
 
--- a used_count with a row of this many bytes more
+-- a used-count with a row of this many bytes more
 abbrev pub one_more : Used → ℕ → Used
 one_more u size = record { rows = u.rows + 1; bytes = u.bytes + size }
 

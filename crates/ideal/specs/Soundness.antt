@@ -93,7 +93,7 @@ sound_tests t =
     -- identities are non-zero in taken places and zero in empty ones
     and eqb b.taken (taken_map b.identities)
     and empty_heaps_zero b.identities (chunks 16 t.heaps)
-    -- no used_count exceeds its table
+    -- no used-count exceeds its table
     and leb b.log.rows 64
     and leb b.log.bytes 4096
     and leb b.escrow.rows 64

@@ -60,7 +60,7 @@ pub record Differing (box : Tables → Element → Result) (es fs : List Element
 abbrev pub PremisesCanBeMet : (Tables → Element → Result) → Type 0
 PremisesCanBeMet box = Differing box (elements 66) (elements 67) 256
 
--- with no escrow, as on a level_one box: 1 makes a byte known and keeps another, which it reads
+-- with no escrow, as on a level-one box: 1 makes a byte known and keeps another, which it reads
 unfoldable pub calls_without : ℕ → List Call
 calls_without b =
     create 0 1 ∷ create 1 3

@@ -48,7 +48,7 @@ pub struct EscrowRow {
     pub mark: u8,
 }
 
-// Which box: the full one, or the one for level_one papers (document 02, P5).
+// Which box: the full one, or the one for level-one papers (document 02, P5).
 #[derive(Clone, Copy)]
 pub enum Profile {
     Full,

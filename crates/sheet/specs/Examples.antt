@@ -1,4 +1,4 @@
--- The example by hand overs, to the byte; document 01's own script; a script that is cut; a level_one paper; the line for
+-- The example by hand overs, to the byte; document 01's own script; a script that is cut; a level-one paper; the line for
 -- too long a script. The proofs are in proofs/Examples.antt.
 use Rattle.std.specs.Prelude.{ℕ, ◌≡◌, List, ◌++◌}
 use Rattle.ideal.specs.Step.{refused_answer}
@@ -44,7 +44,7 @@ cut_sheet =
 abbrev pub CutExample : Type 0
 CutExample = sheet call_on cut_script ≡ cut_sheet
 
--- a level_one paper: creates at 0, at 3, at 4 (22, with identity 0 too) and at 16 (6); a protect while none runs (21); a
+-- a level-one paper: creates at 0, at 3, at 4 (22, with identity 0 too) and at 16 (6); a protect while none runs (21); a
 -- hand over and a heap write; an attest, the same again, one of another value (23) and one beyond the heap (11); a check;
 -- protect, retrieve, chain and release (21); a heap read; hand overs to 3 and to 4 (22); an exit; a hand over to 16; a report; a
 -- protect cut after its kind, for which 1 comes before 21

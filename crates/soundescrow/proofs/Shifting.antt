@@ -9,7 +9,7 @@ use mathlib.Core.List.{List, [], ◌∷◌, ◌++◌}
 use lib.Dec.{eqb}
 use lib.ListN.{length, drop, replicate, length-append, length-drop, length-replicate}
 use lib.Pow.{shr-shr}
-use Rattle.soundescrow.specs.Shift.{number_of, Word, moved_down, Shifted, ShiftIsQuotient}
+use Rattle.soundescrow.specs.Shift.{number_of, Word, moved_down, ShiftIsQuotient}
 
 -- what is left when the lowest bit falls out
 half : (b : Bool) (n : ℕ) → (cond b 1 0 + 2 * n) / 2 ≡ n

@@ -1,7 +1,5 @@
 use mathlib.Core.Path.{sym, ◌∙◌}
-use borrow.Author.Tests.{not-true, not-false}
 use Rattle.calls.proofs.Whole.{nothing_put, refused_entry, sound_entry, ready_sound}
-use borrow.Author.Rules.{rules}
 use Rattle.calls.proofs.call.Goals as goal
 
 pub returns-then-not-is_ready : goal.returns-then-not-is_ready

@@ -2,7 +2,6 @@ use mathlib.Core.Path.{sym}
 use Rattle.record.specs.Meaning.{ReadingWithin, reading_in}
 use Rattle.record.specs.Read.{cut, unknown, wrong_map}
 use Rattle.calls.proofs.Whole.{nothing_put, with_used_lem, whole_read, refused_read}
-use borrow.Author.Rules.{rules}
 use Rattle.calls.proofs.call_sound.Goals as goal
 
 pub carry_out_in-change-requires : goal.carry_out_in-change-requires

@@ -1,6 +1,4 @@
 use mathlib.Core.Path.{sym, ◌∙◌}
-use lib.ListN.{length-map}
-use borrow.Author.Tests.{not-true, not-false}
 use Rattle.soundness.specs.Parts.{Counted}
 use Rattle.calls.specs.Entry.{ready_on}
 use Rattle.calls.proofs.Whole.{sizes_lent}

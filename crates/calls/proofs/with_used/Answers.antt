@@ -1,5 +1,4 @@
 use lib.Seq.{set-get_or}
-use borrow.Author.Rules.{rules}
 use Rattle.calls.proofs.with_used.Goals as goal
 
 pub returns : goal.returns

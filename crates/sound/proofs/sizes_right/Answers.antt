@@ -1,4 +1,3 @@
-use borrow.Author.Rules.{rules}
 use Rattle.ideal.specs.Soundness.{sizes_right}
 use Rattle.sound.proofs.sizes_right.Goals as goal
 

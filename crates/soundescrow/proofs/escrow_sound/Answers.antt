@@ -1,6 +1,5 @@
 use mathlib.Core.Path.{sym, ◌∙◌}
-use borrow.Author.Tests.{le-leb, lt-leb, not-true, not-false}
-use borrow.Author.Rules.{rules}
+use borrow.Author.Tests.{le-leb, lt-leb}
 use Rattle.buffers.proofs.Loops.{to_end}
 use Rattle.ideal.specs.Soundness.{pass, same_handle}
 use Rattle.ideal.specs.Tables.{escrow_table}

@@ -1,16 +1,12 @@
-use Prim.Native.Nat.{ℕ, ◌-◌, ◌≤◌}
-use mathlib.Core.List.{List}
-use mathlib.Core.Logic.{⊎_elim}
+use Prim.Native.Nat.{◌≤◌}
 use mathlib.Core.Path.{◌≡◌, refl}
 use native.Mathlib.Omega.{arith}
 use lib.ListN.{length, get_or}
-use borrow.Author.Rules.{rules}
 use borrow.Author.Tests.{eqb-true, eq-eqb, ne_eqb}
 use Rattle.ideal.specs.Soundness.{same_handle}
 use Rattle.ideal.specs.Step.{has_handle}
 use Rattle.ideal.specs.Tables.{escrow_table}
-use Rattle.ideal.specs.declared.EscrowRow.{EscrowRow}
-use Rattle.soundness.proofs.Seen.{slot_of, slot_within, Seen, none_seen, seen_more, LikeFrom, DifferFrom, from_first, unseen, like_later, differ_not, differ_later, differ_all}
+use Rattle.soundness.proofs.Seen.{slot_of, slot_within, none_seen, seen_more, from_first, unseen, like_later, differ_not, differ_later, differ_all}
 use Rattle.soundescrow.proofs.handles_differ.Goals as goal
 use Rattle.soundescrow.proofs.handles_differ.Goals.{then-seen-slot-eq0, else-seen-slot-eq0}
 use Rattle.soundescrow.proofs.handles_differ.Invariants.{number}
@@ -29,10 +25,11 @@ loop-j-init c =
     let l = c.loop-i in
     let q : l.i ≤ length a.rows = omega (arith, c.well_formed.0.1.0) in
     elim c.if-seen-slot-eq0.branch [
-      then-seen-slot-eq0 w ↦
-        let e : c.if-seen-slot-eq0.j ≡ l.i = w.j-is in
-        (omega arith, λ values. rw e (unseen escrow_table same_handle values a.rows l.i q number (λ r o y. eqb-true (number o) (number r) y) l.seen l.invariant.1 w.if-seen-slot-eq0.true))
-    | else-seen-slot-eq0 w ↦ let e : c.if-seen-slot-eq0.j ≡ 0 = w.j-is in (omega arith, λ values. rw e) ]
+      | then-seen-slot-eq0 w ↦
+          let e : c.if-seen-slot-eq0.j ≡ l.i = w.j-is in
+          (omega arith, λ values. rw e (unseen escrow_table same_handle values a.rows l.i q number (λ r o y. eqb-true (number o) (number r) y) l.seen l.invariant.1 w.if-seen-slot-eq0.true))
+      | else-seen-slot-eq0 w ↦ let e : c.if-seen-slot-eq0.j ≡ 0 = w.j-is in (omega arith, λ values. rw e)
+    ]
 
 pub returns-then-other-row : goal.returns-then-other-row
 unfolding same_handle has_handle

@@ -1,16 +1,9 @@
 use Prim.Native.Nat.{ℕ, ◌-◌, ◌≤◌}
 use mathlib.Core.List.{List}
-use mathlib.Core.Logic.{⊎_elim}
-use mathlib.Core.Path.{◌≡◌, refl}
-use native.Mathlib.Omega.{arith}
-use lib.ListN.{length, get_or}
-use borrow.Author.Rules.{rules}
-use borrow.Author.Tests.{eqb-true, eq-eqb, ne_eqb}
 use Rattle.ideal.specs.Soundness.{same_handle}
-use Rattle.ideal.specs.Step.{has_handle}
 use Rattle.ideal.specs.Tables.{escrow_table}
 use Rattle.ideal.specs.declared.EscrowRow.{EscrowRow}
-use Rattle.soundness.proofs.Seen.{slot_of, slot_within, Seen, none_seen, seen_more, LikeFrom, DifferFrom, from_first, unseen, like_later, differ_not, differ_later, differ_all}
+use Rattle.soundness.proofs.Seen.{Seen, LikeFrom, DifferFrom}
 use Rattle.soundescrow.proofs.handles_differ.Given as goal
 
 abbrev pub number : EscrowRow → ℕ

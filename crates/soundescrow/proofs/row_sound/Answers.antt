@@ -1,5 +1,4 @@
 use borrow.Author.Tests.{eq-eqb, ne_eqb, le-leb, lt-leb}
-use borrow.Author.Rules.{rules}
 use Rattle.ideal.specs.Soundness.{has_identities}
 use Rattle.soundness.specs.Tests.{row_sound, escrow_row_right}
 use Rattle.soundescrow.proofs.row_sound.Goals as goal

@@ -1,11 +1,9 @@
-use Prim.Native.Nat.{◌*◌, ◌-◌, ◌≤◌}
+use Prim.Native.Nat.{◌≤◌}
 use mathlib.Core.Path.{sym, ◌∙◌, ◌≡◌, refl}
 use native.Mathlib.Omega.{arith}
-use lib.ListN.{length, take, drop}
-use borrow.Author.Tests.{not-true, not-false}
-use borrow.Author.Rules.{rules}
+use lib.ListN.{length}
 use Rattle.ideal.specs.Tables.{escrow_table}
-use Rattle.soundness.specs.Tests.{rows_sound, escrow_row_right}
+use Rattle.soundness.specs.Tests.{escrow_row_right}
 use Rattle.soundness.proofs.Rows.{rows_step, rows_ended, right_short}
 use Rattle.soundescrow.proofs.rows_sound.Goals as goal
 

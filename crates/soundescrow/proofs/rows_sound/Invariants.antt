@@ -1,12 +1,8 @@
 use Prim.Native.Nat.{◌*◌, ◌-◌, ◌≤◌}
-use mathlib.Core.Path.{sym, ◌∙◌, ◌≡◌, refl}
-use native.Mathlib.Omega.{arith}
-use lib.ListN.{length, take, drop}
-use borrow.Author.Tests.{not-true, not-false}
-use borrow.Author.Rules.{rules}
+use mathlib.Core.Path.{◌≡◌}
+use lib.ListN.{take, drop}
 use Rattle.ideal.specs.Tables.{escrow_table}
 use Rattle.soundness.specs.Tests.{rows_sound, escrow_row_right}
-use Rattle.soundness.proofs.Rows.{rows_step, rows_ended, right_short}
 use Rattle.soundescrow.proofs.rows_sound.Given as goal
 
 -- the rows to come are sound from `at` on just where all are from 0 on

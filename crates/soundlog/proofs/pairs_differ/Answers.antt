@@ -38,10 +38,11 @@ loop-j-init c =
     let l = c.loop-i in
     let q : l.i ≤ length a.rows = omega (arith, c.well_formed.0.1.0) in
     elim c.if-seen-slot-eq0.branch [
-      then-seen-slot-eq0 w ↦
-        let e : c.if-seen-slot-eq0.j ≡ l.i = w.j-is in
-        (omega arith, rw e (unseen log_table same_logged a.values.now a.rows l.i q number (agree a.values.now) l.seen l.invariant.1 w.if-seen-slot-eq0.true))
-    | else-seen-slot-eq0 w ↦ let e : c.if-seen-slot-eq0.j ≡ 0 = w.j-is in (omega arith, rw e) ]
+      | then-seen-slot-eq0 w ↦
+          let e : c.if-seen-slot-eq0.j ≡ l.i = w.j-is in
+          (omega arith, rw e (unseen log_table same_logged a.values.now a.rows l.i q number (agree a.values.now) l.seen l.invariant.1 w.if-seen-slot-eq0.true))
+      | else-seen-slot-eq0 w ↦ let e : c.if-seen-slot-eq0.j ≡ 0 = w.j-is in (omega arith, rw e)
+    ]
 
 pub slice_bounds-row_is-end : goal.slice_bounds-row_is-end
 unfolding RowsFit

@@ -2,7 +2,6 @@ use Rattle.calls.proofs.Carried.{heap_written, heap_shown, shared_written, share
 use Rattle.calls.proofs.Ready.{ready}
 use Rattle.calls.proofs.Rest.{rest_report}
 use Rattle.record.specs.Meaning.{CallWithin}
-use borrow.Author.Rules.{rules}
 use Rattle.calls.proofs.dispatch.answer_alone.Goals as goal
 
 pub bytes_of-requires : goal.bytes_of-requires

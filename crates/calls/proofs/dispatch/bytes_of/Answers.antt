@@ -1,7 +1,6 @@
 use Rattle.record.specs.Meaning.{bytes_in, PartWithin}
 use native.Mathlib.Nat.{add-sub_cancel_left}
 use native.Mathlib.Omega.{arith}
-use borrow.Author.Rules.{rules}
 use Rattle.calls.proofs.dispatch.bytes_of.Goals as goal
 
 pub overflow_add-end : goal.overflow_add-end

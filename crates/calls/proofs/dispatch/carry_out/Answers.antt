@@ -2,7 +2,6 @@ use Rattle.calls.proofs.Carried.{created, exited, attested, protected, handed_ov
 use Rattle.calls.proofs.Whole.{nothing_put}
 use Rattle.calls.proofs.Ready.{ready}
 use Rattle.calls.proofs.Rest.{rest_alone}
-use borrow.Author.Rules.{rules}
 use Rattle.calls.proofs.dispatch.carry_out.Goals as goal
 
 pub create-requires : goal.create-requires

@@ -2,7 +2,6 @@ use mathlib.Core.Path.{◌∙◌}
 use borrow.Author.Tests.{eq-eqb, ne_eqb}
 use Rattle.calls.proofs.Ready.{ready}
 use Rattle.calls.proofs.Whole.{nothing_put, own_refused, none_refused}
-use borrow.Author.Rules.{rules}
 use Rattle.calls.proofs.dispatch.carry_out_in.Goals as goal
 
 pub own_refusal-code-requires : goal.own_refusal-code-requires
