@@ -4,9 +4,9 @@
 use Prim.Native.Nat.{ℕ}
 use mathlib.Core.List.{List, [], ◌∷◌}
 use lib.ListN.{length}
-use package.mir.Val.{Val}
+use mir.Val.{Val}
 use denote.Builtin.{u8}
-use denote.Ref.{Bor}
+use denote.Ref.{Bor, MutBor}
 use denote.Slice.{Room}
 use denote.Laws.{Is}
 use denote.Enum.Laws as E
@@ -39,7 +39,7 @@ answer = record { type = N.the_type; laws = N'.the_laws; facts = N'.the_plain; c
 
 -- the lent byte buffers and the record's bytes
 abbrev pub Buffers : Type 0
-Buffers = Bor (List ℕ) × (Bor (List ℕ) × (Bor (List ℕ) × (Bor (List ℕ) × (Bor (List ℕ) × (Bor (List ℕ) × Unit {0})))))
+Buffers = MutBor (List ℕ) × (MutBor (List ℕ) × (MutBor (List ℕ) × (MutBor (List ℕ) × (MutBor (List ℕ) × (Bor (List ℕ) × Unit {0})))))
 
 abbrev pub Rooms : Buffers → Type 0
 Rooms hs = Room u8 (length hs.0.now) × (Room u8 (length hs.1.0.now) × (Room u8 (length hs.1.1.0.now)

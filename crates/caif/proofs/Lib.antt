@@ -1,3 +1,4 @@
 pub mod Counting
 pub mod OneTable
 pub mod Lending
+pub mod Handed

@@ -37,7 +37,8 @@ pub fn caif_call_lent(
         output,
         bytes,
     );
-    if reply.answer.code != 0 {
+    let refused = reply.answer.code != 0;
+    if refused {
         return reply.answer;
     }
     *held = reply.held;

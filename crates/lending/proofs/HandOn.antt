@@ -1,11 +1,17 @@
 -- A slice that is lent to a function is handed on to one that it calls. Each law walks a piece of the caller's MIR, from the statement that lends the slice on to the one after the call, for every kind of row and wherever its locals are.
---     v                a slice's machine value
+--     v, shared_v      a slice's machine value, that is lent as `&mut` or as `&`
+--     Gave             what is had of a slice that is given up: what says its last list, and the borrow
 --     gives_up         a slice is given up as it is: its last list is the present one
 --     Sees, sees       the slice, which is lent as `&` already, goes to a call with other values ps, and comes back (`Share.antt`)
 --     Takes, gives     the slice is given up to a call, with other values ps, which says its last list
 -- Assumes `Logic`.
 use types.Logic.{Logic}
 use denote.Ref.{Bor, MutBor}
+use base.Fml.{fbor}
+use types.SemTy.{Body as Borrowed, Arr}
+use types.Hole.{Holey}
+use denote.Memory.{mem as lying}
+use Rattle.lending.proofs.Walk.{fsep}
 use mathlib.Core.Path.{◌≡◌}
 use Prim.Native.Nat.{ℕ}
 use mathlib.Core.List.{List, [], ◌∷◌}
@@ -22,12 +28,18 @@ use Rattle.lending.proofs.Locals.{Slot, has, slot, put, Typed, Locals, spot, set
 abbrev pub v : {X : Type 0} → MutBor (List X) → Val
 v x = slice_val x.ref_ptr (length x.now)
 
+abbrev pub shared_v : {X : Type 0} → Bor (List X) → Val
+shared_v x = slice_val x.ref_ptr (length x.now)
+
+abbrev pub Gave : (S : RattleType) → Lft → MutBor (List S.Denot) → List S.Denot → Fml
+Gave S κ x ws = fsep (finally S x.ghost_name ws) (fbor κ (Borrowed (Arr (Holey (lying S)) (length x.now)) x.ref_ptr.0 x.ref_ptr.1 x.ghost_name))
+
 module _ {M : Type 1} {𝓤 : Ura M} (𝓛 : Logic 𝓤) where
-  pub gives_up : (S : RattleType) (j : ℕ) (κ : Lft) (x : MutBor (List S.Denot)) (u : Val) → ent 𝓤 (sem 𝓛 ((MutSlice (named j) κ S).own_val x (u ∷ []))) (sem 𝓛 (finally S x.ghost_name x.now))
+  pub gives_up : (S : RattleType) (j : ℕ) (κ : Lft) (x : MutBor (List S.Denot)) (u : Val) → ent 𝓤 (sem 𝓛 ((MutSlice (named j) κ S).own_val x (u ∷ []))) (sem 𝓛 (Gave S κ x x.now))
   gives_up S j κ x u =
       qed 𝓛 (‵ ((MutSlice (named j) κ S).own_val x (u ∷ [])) ∷ []) ∵ fsplit ! $ move ! (1 ∷ []) $ fsplit ! $
       use1 𝓛 (‵ (fres x.ghost_name ((coded_holeys S).code (heres S x.now)))) (𝓛.names.obs-res x.ghost_name ((coded_holeys S).code (heres S x.now))) $
-      use1 𝓛 (‵ (finally S x.ghost_name x.now)) (res-finally 𝓛 (named j) κ S x.ghost_name x.now) $ keep ! (0 ∷ []) $ done !
+      use1 𝓛 (‵ (finally S x.ghost_name x.now)) (res-finally 𝓛 (named j) κ S x.ghost_name x.now) $ keep ! (0 ∷ 1 ∷ []) $ fjoin ! $ done !
 
 module _ (k : Kind) {M : Type 1} (𝓤 : Ura M) (ps : List (Param 1)) (ks : Kepts ps) (S : RattleType) (Asks : (κs : Lfts 1) → List k.type.D → Denots (types_at ps κs) → SProp 𝓤)
     (Said : (κs : Lfts 1) → List k.type.D → Denots (types_at ps κs) → S.Denot → Type 0) where
@@ -149,7 +161,7 @@ module _ (k : Kind) {M : Type 1} {𝓤 : Ura M} (𝓛 : Logic 𝓤) (ℓ : Lifet
         → Typed 𝓤 H E j (slice_ty (ty_ref ℓ mut (ref k))) → Typed 𝓤 H E a (ty_ref erased mut (ref k)) → Typed 𝓤 H E c (slice_ty (ty_ref erased mut (ref k))) → Typed 𝓤 H E d ty_unit
         → slot j ss ≡ has s → slot j (put a (vptr b o) ss) ≡ has s → Asks (κ, tt) (x γ, xs) → ent 𝓤 (emp 𝓤) (sem 𝓛 (owns (types_at ps (κ, tt)) xs vss))
         → ((P : Item 𝓤) → Opds K 𝓛 (P ∷ Locals H E (lent a c ss) ∷ Γ) E os (G.args to_take))
-        → ((u : Val) (zs : List Row) → length zs ≡ length ys → zs ≡ last → Seq K 𝓛 (Locals H E (put d u (lent a c ss)) ∷ ‵ (finally (R k) γ zs) ∷ ‵ (flft κ q) ∷ Γ) (runs C Λ E rest Q))
+        → ((u : Val) (zs : List Row) → length zs ≡ length ys → zs ≡ last → Seq K 𝓛 (Locals H E (put d u (lent a c ss)) ∷ ‵ (Gave (R k) κ (x γ) zs) ∷ ‵ (flft κ q) ∷ Γ) (runs C Λ E rest Q))
         → Seq K 𝓛 (Locals H E ss ∷ ‵ Own ∷ ‵ (flft κ q) ∷ Γ)
         (runs C Λ E (seq (assign (place a []) (addr_of (place j (field 0 ∷ deref τ ∷ [])))) (seq (assign (place c []) (aggregate (copy (place a []) ∷ copy (place j (field 1 ∷ [])) ∷ []))) (seq (call #take os (place d [])) rest))) Q)
     gives _ {d = d} fm known nj na nc nd hj hj' asks owed read goes = stated (
@@ -158,7 +170,7 @@ module _ (k : Kind) {M : Type 1} {𝓤 : Ura M} (𝓛 : Logic 𝓤) (ℓ : Lifet
         use1 𝓛 (later (some (λ (z : Unit {0}). ((‵ (flft κ q) ⊛ ‵ ftrue) ⊛ ‵ (Nothing.own_val z (u ∷ []))) ⊛ raw (ensured 𝓛 taken (take_clauses k ps ks Asks after 𝓤) (κ, tt) (x γ, xs) tt z)))) (id⊢ 𝓤 _) $
         await ! tt $ pick ! (λ z. split ! $ move ! (1 ∷ []) $
         use1 𝓛 (some (λ (zs : List Row × Fins (κ, tt) ps ks xs). ‵ (lasts taken (κ, tt) (x γ, xs) zs) ⊛ raw (fact 𝓤 (zs.0 ≡ last)))) (id⊢ 𝓤 _) $
-        pick ! (λ zs. split ! $ move ! (1 ∷ []) $ heard ! (zs.0 ≡ last) (λ ez. fsplit ! $ fsplit ! $ move ! (1 ∷ []) $ drop ! $ fsplit ! $ move ! (1 ∷ []) $ feq_l ! (λ len.
+        pick ! (λ zs. split ! $ move ! (1 ∷ []) $ heard ! (zs.0 ≡ last) (λ ez. fsplit ! $ fsplit ! $ fsplit ! $ move ! (1 ∷ []) $ feq_l ! (λ len. fjoin ! $
         -- [the last list; …; what is returned; the locals; …]
         move ! (2 ∷ []) $ split ! $ split ! $ move ! (2 ∷ []) $ peeks ! Nothing (Is Nothing) (shows 𝓛 Nothing) z (u ∷ []) (λ isu. drop ! $
         -- [the token; …; the last list; …; the locals; …]
