@@ -11,3 +11,6 @@ pub mod Accurate
 pub mod Unasked
 pub mod Lists
 pub mod Shifted
+pub mod Slices
+pub mod Handed
+pub mod Entered

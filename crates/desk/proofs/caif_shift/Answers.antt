@@ -1,7 +1,6 @@
 -- A list is refused whole by its counts alone; else each tank has its answer.
-use Rattle.std.proofs.Common.{◌≡◌, sym, ◌∙◌, length, arith, eqb}
+use Rattle.std.proofs.Common.{sym, ◌∙◌, length, arith}
 use borrow.Author.Tests.{ne_eqb}
-use Rattle.desk.specs.Desk.{shift_code}
 use Rattle.desk.proofs.Lists.{is_whole, shift_right, shift_refused}
 use Rattle.desk.proofs.caif_shift.Goals as goal
 

@@ -1,5 +1,4 @@
 use mathlib.Core.Path.{sym, ap, ◌∙◌}
-use borrow.Author.Rules.{rules}
 use Rattle.ideal.specs.Box.{call_on}
 use Rattle.ideal.specs.Tables.{lent_tables}
 use Rattle.desk.specs.Results.{check_leaves, unasked}

@@ -1,5 +1,4 @@
 use mathlib.Core.Path.{◌∙◌}
-use borrow.Author.Rules.{rules}
 use Rattle.ideal.specs.declared.Profile.TheVariants.{Full}
 use Rattle.calls.proofs.Whole.{sound_entry}
 use Rattle.desk.proofs.Asked.{checked}

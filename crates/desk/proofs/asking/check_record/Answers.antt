@@ -1,5 +1,4 @@
 use mathlib.Core.Path.{ap, ◌∙◌}
-use borrow.Author.Rules.{rules}
 use Rattle.writer.specs.Results.{wrote_on}
 use Rattle.desk.proofs.Record.{written}
 use Rattle.desk.proofs.asking.check_record.Goals as goal

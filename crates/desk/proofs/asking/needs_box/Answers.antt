@@ -2,7 +2,6 @@ use mathlib.Core.Bool.{◌&&◌}
 use mathlib.Core.Path.{◌∙◌}
 use mir.Syntax.{w32}
 use borrow.Author.Tests.{eq-eqb, ne_eqb}
-use borrow.Author.Rules.{rules}
 use Rattle.desk.specs.Decision.{in_range}
 use Rattle.desk.specs.Results.{needs_box}
 use Rattle.desk.proofs.Signs.{back₂}

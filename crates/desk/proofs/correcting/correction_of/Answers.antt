@@ -1,5 +1,4 @@
 use borrow.Author.Tests.{eq-eqb, ne_eqb}
-use borrow.Author.Rules.{rules}
 use Rattle.desk.specs.Decision.{correction_of}
 use Rattle.desk.proofs.correcting.correction_of.Goals as goal
 

@@ -1,6 +1,5 @@
 use Prim.Native.Nat.{◌+◌, ◌*◌, ◌<◌}
 use native.Mathlib.Omega.{arith}
-use borrow.Author.Rules.{rules}
 use Rattle.desk.proofs.Signs.{signed_low, lessens, narrows, narrowed}
 use Rattle.desk.proofs.correcting.signed_of.Reads as reads
 use Rattle.desk.proofs.correcting.signed_of.Lts as lts

@@ -1,4 +1,3 @@
-use borrow.Author.Rules.{rules}
 use Rattle.desk.specs.Decision.{answer_of, told}
 use Rattle.desk.proofs.deciding.answer_of.Goals as goal
 

@@ -1,7 +1,6 @@
 use mathlib.Core.Path.{sym, ap, ◌∙◌}
 use lib.IntN.{pos, negsuc}
 use mir.Facts.{to_z-of_z}
-use borrow.Author.Rules.{rules}
 use Rattle.desk.specs.Decision.{between, in_range, correction_in_range, corrected, decided}
 use Rattle.desk.proofs.Signs.{widens, widened, back₃}
 use Rattle.desk.proofs.deciding.correct.Goals as goal

@@ -1,5 +1,4 @@
 use mathlib.Core.Path.{◌∙◌, ap}
-use borrow.Author.Rules.{rules}
 use Rattle.desk.specs.Decision.{decided}
 use Rattle.desk.proofs.Signs.{widens, adds, subtracts, difference_back}
 use Rattle.desk.proofs.deciding.decide_with.Goals as goal

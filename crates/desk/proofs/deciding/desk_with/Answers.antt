@@ -2,7 +2,6 @@ use mathlib.Core.Bool.{◌&&◌}
 use mathlib.Core.Path.{sym, ap, ◌∙◌}
 use mir.Val.{to_z, of_z}
 use mir.Syntax.{w32}
-use borrow.Author.Rules.{rules}
 use Rattle.lists.proofs.Bools.{and_left, and_right}
 use Rattle.desk.specs.Decision.{in_range, judged, desk_by}
 use Rattle.desk.proofs.Signs.{back₂}

@@ -1,7 +1,6 @@
 use mathlib.Core.Path.{◌∙◌, ap}
 use lib.IntN.{pos, negsuc}
 use mir.Facts.{to_z-of_z}
-use borrow.Author.Rules.{rules}
 use Rattle.desk.specs.Decision.{in_range, between}
 use Rattle.desk.proofs.deciding.in_range.Goals as goal
 

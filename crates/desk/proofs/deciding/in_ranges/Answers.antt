@@ -1,6 +1,5 @@
 use mathlib.Core.Path.{sym, ap, ◌∙◌}
 use mir.Facts.{to_z-of_z}
-use borrow.Author.Rules.{rules}
 use Rattle.desk.specs.Decision.{in_range}
 use Rattle.desk.proofs.deciding.in_ranges.Goals as goal
 

@@ -3,7 +3,6 @@ use lib.IntN.{pos, ◌+ℤ◌, ◌-ℤ◌}
 use mir.Val.{to_z, of_z}
 use mir.Syntax.{w16}
 use mir.Facts.{to_z-of_z}
-use borrow.Author.Rules.{rules}
 use Rattle.desk.specs.Decision.{between, in_range, correction_in_range, judged, decided, corrected}
 use Rattle.desk.proofs.Signs.{back₂}
 use Rattle.desk.proofs.deciding.judge.Goals as goal

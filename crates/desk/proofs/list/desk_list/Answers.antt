@@ -1,6 +1,4 @@
 use mathlib.Core.Path.{sym, ◌∙◌}
-use borrow.Author.Tests.{not-true, not-false}
-use borrow.Author.Rules.{rules}
 use Rattle.calls.proofs.Whole.{ready_sound, not_ready}
 use Rattle.desk.proofs.Unasked.{unready_list}
 use Rattle.desk.proofs.list.desk_list.Goals as goal

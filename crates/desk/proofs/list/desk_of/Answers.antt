@@ -1,5 +1,4 @@
 use mathlib.Core.Path.{◌∙◌}
-use borrow.Author.Rules.{rules}
 use Rattle.desk.proofs.Desked.{desked}
 use Rattle.desk.proofs.list.desk_of.Goals as goal
 

@@ -1,6 +1,5 @@
 use mathlib.Core.Path.{◌∙◌, ap}
 use lib.ListN.{set}
-use borrow.Author.Rules.{rules}
 use Rattle.desk.specs.Results.{blank_tanks}
 use Rattle.desk.proofs.list.list_of.Goals as goal
 

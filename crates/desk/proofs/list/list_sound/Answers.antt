@@ -1,14 +1,14 @@
-use mathlib.Core.Path.{◌≡◌, sym, ◌∙◌, ap}
+use mathlib.Core.Path.{ap}
 use mathlib.Core.List.{List}
-use Prim.Native.Nat.{◌-◌, ◌≤◌, ◌<◌, zero-le}
+use Prim.Native.Nat.{◌<◌, zero-le}
 use native.Mathlib.Omega.{arith}
-use lib.ListN.{length, length-map}
+use lib.ListN.{length}
 use borrow.Author.Rules.{rules}
 use Rattle.ideal.specs.Box.{call_on}
 use Rattle.ideal.specs.Tables.{lent_tables}
 use Rattle.desk.specs.declared.TankAnswer.{TankAnswer}
 use Rattle.desk.specs.Results.{Left}
-use Rattle.desk.proofs.Listed.{stands, Upto, still, turned, listed}
+use Rattle.desk.proofs.Listed.{stands, still, turned, listed}
 use Rattle.desk.proofs.list.list_sound.Goals as goal
 
 pub loop-i-init : goal.loop-i-init

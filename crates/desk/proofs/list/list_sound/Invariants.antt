@@ -1,14 +1,8 @@
-use mathlib.Core.Path.{◌≡◌, sym, ◌∙◌, ap}
-use mathlib.Core.List.{List}
-use Prim.Native.Nat.{◌-◌, ◌≤◌, ◌<◌, zero-le}
-use native.Mathlib.Omega.{arith}
-use lib.ListN.{length, length-map}
-use borrow.Author.Rules.{rules}
+use mathlib.Core.Path.{◌≡◌}
+use Prim.Native.Nat.{◌-◌, ◌≤◌}
 use Rattle.ideal.specs.Box.{call_on}
 use Rattle.ideal.specs.Tables.{lent_tables}
-use Rattle.desk.specs.declared.TankAnswer.{TankAnswer}
-use Rattle.desk.specs.Results.{Left}
-use Rattle.desk.proofs.Listed.{stands, Upto, still, turned, listed}
+use Rattle.desk.proofs.Listed.{stands, Upto}
 use Rattle.desk.proofs.list.list_sound.Given as goal
 
 abbrev pub invariant-loop-i : goal.invariant-loop-i

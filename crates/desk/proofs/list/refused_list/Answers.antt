@@ -1,8 +1,6 @@
-use mathlib.Core.Path.{◌≡◌, sym, ◌∙◌}
-use mathlib.Core.List.{◌++◌, map}
-use Prim.Native.Nat.{◌+◌, ◌-◌, ◌≤◌, ◌<◌, zero-le}
+use mathlib.Core.Path.{◌∙◌}
+use Prim.Native.Nat.{◌<◌, zero-le}
 use native.Mathlib.Omega.{arith}
-use lib.ListN.{take, drop, length-map}
 use borrow.Author.Rules.{rules}
 use Rattle.desk.specs.Decision.{desk_by}
 use Rattle.desk.specs.Results.{refused_all, no_answers}

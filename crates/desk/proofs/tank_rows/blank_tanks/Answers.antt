@@ -1,4 +1,3 @@
-use borrow.Author.Rules.{rules}
 use Rattle.desk.proofs.tank_rows.blank_tanks.Goals as goal
 
 pub returns : goal.returns
