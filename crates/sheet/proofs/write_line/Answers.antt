@@ -1,4 +1,3 @@
-use borrow.Author.Rules.{rules}
 use native.Mathlib.Omega.{arith}
 use Rattle.ideal.specs.Step.{Answer}
 use Rattle.sheet.specs.Sheet.{bytes_of, line}

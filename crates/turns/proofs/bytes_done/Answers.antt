@@ -1,5 +1,4 @@
 use mathlib.Core.Path.{sym, ◌∙◌}
-use borrow.Author.Rules.{rules}
 use Rattle.turns.proofs.bytes_done.Goals as goal
 
 pub returns-then-is_last : goal.returns-then-is_last

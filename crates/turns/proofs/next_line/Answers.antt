@@ -1,5 +1,4 @@
 use native.Mathlib.Omega.{arith}
-use borrow.Author.Rules.{rules}
 use Rattle.ideal.proofs.Facts.{output_size_lem}
 use Rattle.turns.proofs.NextTurn.{shown_fits, turn_called, output_called}
 use Rattle.turns.proofs.next_line.Goals as goal

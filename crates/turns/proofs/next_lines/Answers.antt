@@ -1,12 +1,11 @@
-use Prim.Native.Nat.{◌≤◌, ◌<◌, ◌-◌, ◌^◌}
-use mathlib.Core.Path.{◌≡◌, sym, subst}
+use Prim.Native.Nat.{◌<◌, ◌^◌}
+use mathlib.Core.Path.{sym, subst}
 use native.Mathlib.Omega.{arith}
 use lib.ListN.{length}
 use borrow.Author.Rules.{rules}
 use Rattle.ideal.specs.Layouts.{Sound}
-use Rattle.ideal.specs.Tables.{lent_tables}
 use Rattle.state.proofs.Edited.{escrow_fits_lem}
-use Rattle.turns.proofs.OneByOne.{Going, starts, at_end, at_room, part_length, front_length, further, some_done, more_fits, goes_on}
+use Rattle.turns.proofs.OneByOne.{starts, at_end, at_room, part_length, front_length, further, some_done, more_fits, goes_on}
 use Rattle.turns.proofs.next_lines.Goals as goal
 
 pub loop-done-init : goal.loop-done-init

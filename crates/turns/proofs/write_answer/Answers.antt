@@ -1,6 +1,5 @@
 use mathlib.Core.Path.{sym}
 use lib.Seq.{length-take-le}
-use borrow.Author.Rules.{rules}
 use Rattle.turns.proofs.write_answer.Goals as goal
 
 pub slice_bounds-write_line-end : goal.slice_bounds-write_line-end

@@ -1,9 +1,6 @@
-use Prim.Native.Nat.{◌≤◌, ◌+◌, ◌-◌, ◌*◌}
 use mathlib.Core.Path.{◌≡◌, refl, ◌∙◌}
 use native.Mathlib.Omega.{arith}
-use lib.ListN.{length, drop, length-set}
-use lib.Seq.{sets}
-use Rattle.sheet.specs.Sheet.{hexadecimal}
+use lib.ListN.{length, length-set}
 use Rattle.sheet.proofs.Texts.{length_hexadecimal, hex_more, hex_none}
 use Rattle.sheet.proofs.text.put_hex.Goals as goal
 

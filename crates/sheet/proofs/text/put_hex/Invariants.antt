@@ -1,10 +1,8 @@
 use Prim.Native.Nat.{◌≤◌, ◌+◌, ◌-◌, ◌*◌}
-use mathlib.Core.Path.{◌≡◌, refl, ◌∙◌}
-use native.Mathlib.Omega.{arith}
-use lib.ListN.{length, drop, length-set}
+use mathlib.Core.Path.{◌≡◌}
+use lib.ListN.{length, drop}
 use lib.Seq.{sets}
 use Rattle.sheet.specs.Sheet.{hexadecimal}
-use Rattle.sheet.proofs.Texts.{length_hexadecimal, hex_more, hex_none}
 use Rattle.sheet.proofs.text.put_hex.Given as goal
 
 -- storing the digits of the bytes to come gives the whole

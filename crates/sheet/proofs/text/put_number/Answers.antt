@@ -1,4 +1,3 @@
-use borrow.Author.Rules.{rules}
 use native.Mathlib.Omega.{arith}
 use Rattle.sheet.specs.Sheet.{bytes_of, spaced}
 use Rattle.sheet.proofs.Texts.{length_decimal, stored_then}

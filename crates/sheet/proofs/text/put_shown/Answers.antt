@@ -1,4 +1,3 @@
-use borrow.Author.Rules.{rules}
 use Rattle.sheet.proofs.Texts.{shown_none, shown_some}
 use Rattle.sheet.proofs.text.put_shown.Goals as goal
 
