@@ -7,18 +7,20 @@ ghost use Rattle.ideal.specs.Tables.{log_table};
 ghost use Rattle.state.specs.Counts.{Room};
 ghost use Rattle.state.specs.Edits.{stored, log_store, more};
 ghost use Rattle.state.specs.Parts.{TableFits};
+ghost use Rattle.state.specs.Refusals.{answer_in, change_in};
 ghost use Rattle.attesting.specs.Narrow.{attest_value, attest_on, check_on};
 
 use buffers::put;
 use fnv::{Tag, tag_of};
-use ideal::{BoxRecord, HEAP, LogRow, Used};
+use ideal::{BoxRecord, LogRow};
 use pairs::in_log;
 use state::{
-    Answer, Change, Edits, LogEdit, LogTable, accepted, is_full, no_escrow_edit, refuse, refused,
-    unedited,
+    Change, Edits, LogEdit, Refusal, accepted, heap_part, is_full, raised, running_place, unedited,
 };
 
 // One row and its value more.
+// It and escrow::escrow_more stay two: they share `raised`, and a trait for the rest, which is fields, would be longer than both.
+#[tactic(auto, unfolding(state::specs::Edits::more))]
 fn log_more(held: BoxRecord, values: &mut [u8], identity: u64, tag: Tag, value: &[u8]) -> Change
     requires { (length values.old ≡ 4096) × Room held.log (length value.now) }
     ensures { stored result values.new ≡ more log_store held values.old (record { identity = identity; tag = tag }) value.now }
@@ -32,97 +34,83 @@ fn log_more(held: BoxRecord, values: &mut [u8], identity: u64, tag: Tag, value: 
         first: used.bytes,
         length: size,
     };
-    let raised = Used {
-        rows: used.rows + 1,
-        bytes: used.bytes + size,
-    };
-    let mut next = held;
-    next.log = raised;
-    let edit = LogEdit {
-        put: true,
+    let log = LogEdit {
         at: used.rows as usize,
         row,
     };
-    let edits = Edits {
-        log: edit,
-        escrow: no_escrow_edit(),
-    };
     Change {
-        held: next,
-        edits,
+        held: BoxRecord {
+            log: raised(used, size),
+            ..held
+        },
+        edits: Edits {
+            log: Some(log),
+            escrow: None,
+        },
         answer: accepted(tag.0),
     }
 }
 
 // A value attested with its tag: a pair already logged adds no row, even when the log is full.
+#[tactic(auto, using(state::proofs::Parts::used_fit, state::proofs::Rooms::has_room), unfolding(crate::specs::Narrow::attest_value, crate::specs::Narrow::attested, state::specs::Edits::unless, state::specs::Answers::settled, ideal::specs::Step::first_holding))]
 fn attest_value(
     held: BoxRecord,
-    log: LogTable,
+    log: &[LogRow],
     values: &mut [u8],
     identity: u64,
     tag: Tag,
     value: &[u8],
-) -> Change
-    requires { TableFits log_table held.log log.rows values.old × (length value.now ≤ 256) }
-    ensures { stored result values.new ≡ attest_value held log.rows values.old identity tag value.now }
+) -> Result<Change, Refusal>
+    requires { (length log.now ≡ 64) × TableFits log_table held.log log.now values.old × (length value.now ≤ 256) }
+    ensures { stored (change_in held result) values.new ≡ attest_value held log.now values.old identity tag value.now }
 {
     let used = held.log;
-    let rows = log.rows;
-    if in_log(rows, used.rows as usize, values, identity, tag, value) {
-        return unedited(held, accepted(tag.0));
+    if in_log(&log[..used.rows as usize], values, identity, tag, value) {
+        return Ok(unedited(held, accepted(tag.0)));
     }
     if is_full(used, value.len()) {
-        return refuse(held, 13);
+        return Err(Refusal::LogFull);
     }
-    log_more(held, values, identity, tag, value)
+    Ok(log_more(held, values, identity, tag, value))
 }
 
 // Attests a part of the running heap: that middle part of the lent heaps goes to the tag and to the log.
+#[tactic(auto, using(ideal::proofs::Table::part_length), unfolding(crate::specs::Narrow::attest_on, crate::specs::Narrow::attest_refusal, crate::specs::Narrow::attest_value, state::specs::Edits::unless, state::specs::Answers::settled, ideal::specs::Step::first_holding, ideal::specs::Step::beyond))]
 pub fn attest(
     held: BoxRecord,
-    log: LogTable,
+    log: &[LogRow],
     heaps: &[u8],
     values: &mut [u8],
     offset: u16,
     size: u16,
-) -> Change
-    requires { (held.running ≤ 16) × (length heaps.now ≡ 4096) × TableFits log_table held.log log.rows values.old }
-    ensures { stored result values.new ≡ attest_on held log.rows heaps.now values.old offset size }
+) -> Result<Change, Refusal>
+    requires { (held.running ≤ 16) × (length log.now ≡ 64) × (length heaps.now ≡ 4096) × TableFits log_table held.log log.now values.old }
+    ensures { stored (change_in held result) values.new ≡ attest_on held log.now heaps.now values.old offset size }
 {
-    if held.running == 16 {
-        return refuse(held, 4);
-    }
-    if offset as usize + size as usize > 256 {
-        return refuse(held, 11);
-    }
-    let place = held.running as usize;
-    let heap = HEAP * place;
-    let start = heap + offset as usize;
-    let end = start + size as usize;
+    let place = running_place(held.running)?;
+    let (start, end) = heap_part(place, offset, size)?;
     let identity = held.identities[place];
     let tag = tag_of(identity, &heaps[start..end]);
     attest_value(held, log, values, identity, tag, &heaps[start..end])
 }
 
 // 1 if identity, tag and value are a log row, else 0. No row has more than 256 bytes, so no longer value is found.
+#[tactic(auto, using(state::proofs::Parts::used_fit), unfolding(crate::specs::Narrow::check_on, state::specs::Answers::answered, ideal::specs::Step::first_holding))]
 pub fn check_pair(
     held: BoxRecord,
-    log: LogTable,
+    log: &[LogRow],
     values: &[u8],
     identity: u64,
     tag: Tag,
     value: &[u8],
-) -> Answer
-    requires { TableFits log_table held.log log.rows values.now }
-    ensures { result ≡ check_on held log.rows values.now identity tag value.now }
+) -> Result<u64, Refusal>
+    requires { (length log.now ≡ 64) × TableFits log_table held.log log.now values.now }
+    ensures { answer_in result ≡ check_on held log.now values.now identity tag value.now }
 {
     if identity == 0 {
-        return refused(9);
+        return Err(Refusal::NoIdentity);
     }
-    let used = held.log;
-    let rows = log.rows;
-    if in_log(rows, used.rows as usize, values, identity, tag, value) {
-        return accepted(1);
-    }
-    accepted(0)
+    let rows = &log[..held.log.rows as usize];
+    let logged = in_log(rows, values, identity, tag, value);
+    Ok(u64::from(logged))
 }

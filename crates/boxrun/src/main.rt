@@ -6,24 +6,17 @@ ghost use Rattle.ideal.specs.Box.{call_on};
 ghost use Rattle.printing.specs.Printing.{Ended};
 
 use ideal::Profile;
-use printing::Ending;
+use printing::{Failure, Progress};
 
-fn print_sheet(rt: HostRuntime) -> Ending
+fn print_sheet(rt: HostRuntime) -> Result<Progress, Failure>
     ensures { Ended result call_on }
 {
     printing::print_answers(rt, Profile::Full)
 }
 
 fn main(rt: HostRuntime) {
-    let said = match print_sheet(rt) {
-        Ending::Whole(_) => Ok(()),
-        Ending::Unread => eprintln!(rt;
-            "boxrun: standard input cannot be read; no sheet is printed"
-        ),
-        Ending::Unwritten(_) => {
-            eprintln!(rt; "boxrun: standard output cannot be written; the sheet is not whole")
-        }
-    };
-    // Where standard error cannot be written either, nobody can be told.
-    let _ = said;
+    if let Err(failure) = print_sheet(rt) {
+        // Where standard error cannot be written either, nobody can be told.
+        let _ = eprintln!(rt; "boxrun: {failure}");
+    }
 }

@@ -10,56 +10,42 @@ ghost use Rattle.fnv.specs.Fnv.{little};
 ghost use Rattle.record.specs.Read.{from_little};
 ghost use Rattle.buffers.specs.Counted.{counted_at, CountedWithin};
 
-// Where a value starts and ends that stands after its count; or the bytes end before it does.
-#[derive(Clone, Copy)]
-pub enum Counted {
-    At(usize, usize),
-    Cut,
-}
-
 // Whether the bytes are 0: joined by `|`, with no way out of the loop, so that it is compiled to vector code.
+#[tactic(auto, using(crate::proofs::Loops::joined, crate::proofs::Loops::zero_step, lists::proofs::Bools::and_assoc, lists::proofs::Bools::and_nil), unfolding(lists::specs::Lists::all_zero, lists::specs::Lists::every))]
 fn part_zero(s: &[u8]) -> bool
     ensures { result ≡ all_zero s.now }
 {
     let mut all: u8 = 0;
-    let mut i = 0;
-    while i < s.len() {
-        all = all | s[i];
-        i += 1;
+    for b in s {
+        all |= *b;
     }
     all == 0
 }
 
 // Whether every byte is 0: 256 at a time, a length known beforehand, so that the loop over them takes no steps of its own, and
-// what is left.
+// what is left. Not by chunks, whose length divides, as the compiler reads it: the soundness test must not (request P4).
 pub fn all_zero(s: &[u8]) -> bool
     ensures { result ≡ all_zero s.now }
 {
-    let mut i: usize = 0;
-    while s.len() - i >= 256 {
-        let end = i + 256;
-        if !part_zero(&s[i..end]) {
+    let mut rest = s;
+    while let Some((part, more)) = rest.split_at_checked(256) {
+        if !part_zero(part) {
             return false;
         }
-        i = end;
+        rest = more;
     }
-    part_zero(&s[i..])
+    part_zero(rest)
 }
 
+// Byte by byte: == on slices divides, as the compiler reads it, and the soundness test must not (request P4).
+#[tactic(auto, using(crate::proofs::Loops::lengths_differ))]
 pub fn same(a: &[u8], b: &[u8]) -> bool
     ensures { result ≡ same_bytes a.now b.now }
 {
     if a.len() != b.len() {
         return false;
     }
-    let mut i = 0;
-    while i < a.len() {
-        if a[i] != b[i] {
-            return false;
-        }
-        i += 1;
-    }
-    true
+    a.iter().zip(b).all(|(x, y)| x == y)
 }
 
 // The bytes of src over the front of dst.
@@ -67,23 +53,21 @@ pub fn copy(src: &[u8], dst: &mut [u8])
     requires { length src.now ≤ length dst.old }
     ensures { dst.new ≡ src.now ++ drop (length src.now) dst.old }
 {
-    let mut i = 0;
-    while i < src.len() {
-        dst[i] = src[i];
-        i += 1;
-    }
+    dst[..src.len()].copy_from_slice(src);
 }
 
 // The bytes of src into dst from start on.
+#[tactic(auto, using(crate::proofs::Loops::part_replaced))]
 pub fn put(src: &[u8], dst: &mut [u8], start: usize)
     requires { start + length src.now ≤ length dst.old }
     ensures { dst.new ≡ sets dst.old start src.now }
 {
     let end = start + src.len();
-    copy(src, &mut dst[start..end]);
+    dst[start..end].copy_from_slice(src);
 }
 
 // Whether size bytes from offset on go beyond a limit. Nothing is added, so that nothing wraps, however long the bytes are.
+#[tactic(auto, using(std::proofs::lemmas::Bool::Decides::nat_tests))]
 pub fn beyond(limit: usize, offset: u16, size: usize) -> bool
     ensures { result ≡ ltb limit (offset + size) }
 {
@@ -105,24 +89,7 @@ pub fn show(memory: &[u8], output: &mut [u8], start: usize, size: u16)
 pub fn clear(dst: &mut [u8])
     ensures { dst.new ≡ replicate (length dst.old) 0 }
 {
-    let mut i = 0;
-    while i < dst.len() {
-        dst[i] = 0;
-        i += 1;
-    }
-}
-
-// The bytes from n on over the front of dst; the last n stay as they were.
-fn move_down(dst: &mut [u8], n: usize)
-    requires { n ≤ length dst.old }
-    ensures { dst.new ≡ drop n dst.old ++ drop (length dst.old - n) dst.old }
-{
-    let count = dst.len() - n;
-    let mut i = 0;
-    while i < count {
-        dst[i] = dst[i + n];
-        i += 1;
-    }
+    dst.fill(0);
 }
 
 // The first n bytes taken out of dst: what follows them closes up, with zeros behind.
@@ -130,20 +97,13 @@ pub fn take_out(dst: &mut [u8], n: usize)
     requires { n ≤ length dst.old }
     ensures { dst.new ≡ drop n dst.old ++ replicate n 0 }
 {
-    move_down(dst, n);
+    dst.copy_within(n.., 0);
     let end = dst.len() - n;
     clear(&mut dst[end..]);
 }
 
-// A byte, with its bound, whatever the index it was read at.
-fn wide(x: u8) -> u64
-    ensures value { result ≡ x }
-    ensures upper_bound { result < 256 }
-{
-    x as u64
-}
-
 // The number of `width` bytes, lowest first. The highest is taken in first.
+#[tactic(auto, unfolding(record::specs::Read::from_little))]
 pub fn number_at(bytes: &[u8], at: usize, width: usize) -> u64
     requires width_in_bounds { at + width ≤ length bytes.now }
     requires width_bound { width ≤ 8 }
@@ -151,43 +111,40 @@ pub fn number_at(bytes: &[u8], at: usize, width: usize) -> u64
     ensures upper_bound { result < 256 ^ width }
 {
     let mut x: u64 = 0;
-    let mut i = 0;
-    while i < width {
-        let j = width - 1 - i;
-        x = x * 256 + wide(bytes[at + j]);
-        i += 1;
+    for i in (0..width).rev() {
+        x = x * 256 + u64::from(bytes[at + i]);
     }
     x
 }
 
-// The `width` lowest bytes of x, lowest first, from `at` on.
+// The `width` lowest bytes of x, lowest first, from `at` on. Not by to_le_bytes, which has 8: this asks no bound of the width.
+#[tactic(auto, using(crate::proofs::Loops::part_replaced, crate::proofs::Loops::sets_whole, record::proofs::LittleEndian::length_little), unfolding(fnv::specs::Fnv::little))]
 pub fn put_number(out: &mut [u8], at: usize, width: usize, x: u64)
     requires { at + width ≤ length out.old }
     ensures { out.new ≡ sets out.old at (little width x) }
 {
     let mut rest = x;
-    let mut i = 0;
-    while i < width {
-        out[at + i] = (rest % 256) as u8;
+    for b in &mut out[at..at + width] {
+        *b = (rest % 256) as u8;
         rest /= 256;
-        i += 1;
     }
 }
 
-// The value at a position, after its count of 2 bytes.
-pub fn counted_at(bytes: &[u8], at: usize) -> Counted
+// Where the value at a position starts and ends, which stands after its count of 2 bytes; none where the bytes end before it
+// does.
+#[tactic(auto, using(std::proofs::lemmas::Bool::Decides::nat_tests), unfolding(crate::specs::Counted::counted_at, crate::specs::Counted::CountedWithin))]
+pub fn counted_at(bytes: &[u8], at: usize) -> Option<(usize, usize)>
     requires { at ≤ length bytes.now }
     ensures value { result ≡ counted_at bytes.now at }
     ensures counted_within { CountedWithin bytes.now result }
 {
     if bytes.len() - at < 2 {
-        return Counted::Cut;
+        return None;
     }
     let start = at + 2;
     let count = number_at(bytes, at, 2) as usize;
     if bytes.len() - start < count {
-        return Counted::Cut;
+        return None;
     }
-    let end = start + count;
-    Counted::At(start, end)
+    Some((start, start + count))
 }

@@ -1,4 +1,4 @@
--- A call on the copies of lent rows is a call on the lent rows; rows that no sound box has are refused; and a refusal leaves the box record. Assumes nothing.
+-- Rows that no sound box has are refused; and a refusal leaves the box record. Assumes nothing.
 use Prim.Native.Nat.{ℕ}
 use mathlib.Core.Path.{◌≡◌, sym, ap, ◌∙◌}
 use mathlib.Core.Bool.{false, true≢false}
@@ -12,47 +12,12 @@ use Rattle.ideal.specs.declared.LogRow.{LogRow}
 use Rattle.ideal.specs.declared.EscrowRow.{EscrowRow}
 use Rattle.ideal.specs.LevelOne.{refusal_in, box_of}
 use Rattle.ideal.specs.Tables.{Tables, lent_tables}
-use Rattle.state.specs.declared.LogTable.{LogTable}
-use Rattle.state.specs.declared.EscrowTable.{EscrowTable}
-use Rattle.state.specs.declared.Change.{Change}
 use Rattle.state.specs.Answers.{refused_with}
-use Rattle.state.specs.Edits.{log_edited, escrow_edited, Fits, EditsBy}
-use Rattle.state.proofs.Edited.{escrow_fits_lem}
-use Rattle.calls.specs.Entry.{EntryResult, EntryRefuses, result_of, ready_on, entry_on}
+use Rattle.calls.specs.Entry.{EntryResult, EntryRefuses, ready_on, entry_on}
 use Rattle.calls.proofs.Whole.{refused_entry}
 use Rattle.calls.proofs.Refuses.{entry_refuses, level_one_refuses}
 use Rattle.caif.specs.declared.LentReply.{LentReply}
 use Rattle.caif.specs.Lent.{lent_result}
-
--- what a host is given
-abbrev pub reply_of : Change → LentReply
-reply_of c = record { held = c.held; answer = c.answer }
-
--- what `call` says of copied rows
-abbrev pub CalledResult : Profile → BoxRecord → LogTable → EscrowTable → (heaps shared log_values escrow_values output bytes : List ℕ) → Change
-    → (heaps' shared' log_values' escrow_values' output' : List ℕ) → Type 0
-CalledResult p b log escrow heaps shared lv ev output bytes c heaps' shared' lv' ev' output' =
-    result_of log escrow c heaps' shared' lv' ev' output' ≡ entry_on (box_of p) (lent_tables b log.rows escrow.rows heaps shared lv ev) bytes output
-
--- what is left to show once it has returned c: its rows fit, and `answers` holds of them
-pub record Settles (c : Change) (log_rows : List LogRow) (escrow_rows : List EscrowRow) (Right : Type 0) : Type 0 where
-  pub answers : Right
-  pub log_fits : Fits c.edits.log.put c.edits.log.at (length log_rows)
-  pub escrow_fits : Fits c.edits.escrow.put c.edits.escrow.at (length escrow_rows)
-
-pub settles : (p : Profile) (b : BoxRecord) (log : LogTable) (escrow : EscrowTable) (heaps shared lv ev output bytes : List ℕ) (c : Change)
-    {heaps' shared' lv' ev' output' : List ℕ} {log_rows : List LogRow} {escrow_rows : List EscrowRow}
-    → log.rows ≡ log_rows → escrow.rows ≡ escrow_rows → length log_rows ≡ 64 → length escrow_rows ≡ 64
-    → CalledResult p b log escrow heaps shared lv ev output bytes c heaps' shared' lv' ev' output' × EditsBy b escrow.rows c.held c.edits
-    → Settles c log_rows escrow_rows
-    (lent_result (reply_of c) (log_edited c.edits.log log_rows) (escrow_edited c.edits.escrow escrow_rows) heaps' shared' lv' ev' output'
-    ≡ entry_on (box_of p) (lent_tables b log_rows escrow_rows heaps shared lv ev) bytes output)
-settles p b log escrow heaps shared lv ev output bytes c el ee nl ne said =
-    record {
-      answers = rw (← el, ← ee) said.0;
-      log_fits = rw nl said.1.log.fits;
-      escrow_fits = rw ne (escrow_fits_lem said.1.escrow);
-    }
 
 pub refused_result : (p : Profile) (b : BoxRecord) (log_rows : List LogRow) (escrow_rows : List EscrowRow) (heaps shared lv ev output bytes : List ℕ)
     → ready_on (lent_tables b log_rows escrow_rows heaps shared lv ev) (length output) ≡ false

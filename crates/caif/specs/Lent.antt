@@ -4,6 +4,7 @@ use Rattle.record.specs.Write.{WriteResult}
 use Rattle.ideal.specs.declared.LogRow.{LogRow}
 use Rattle.ideal.specs.declared.EscrowRow.{EscrowRow}
 use Rattle.ideal.specs.Tables.{lent_tables}
+use Rattle.calls.specs.declared.Buffers.{Buffers}
 use Rattle.calls.specs.Entry.{EntryResult}
 use Rattle.caif.specs.declared.LentReply.{LentReply}
 use Rattle.caif.specs.declared.WrittenReply.{WrittenReply}
@@ -17,6 +18,11 @@ lent_result r log escrow heaps shared log_values escrow_values output =
       answer = r.answer;
       output = output;
     }
+
+-- the same, where the buffers are one struct
+abbrev pub lent_result_in : LentReply → List LogRow → List EscrowRow → Buffers → EntryResult
+lent_result_in r log escrow l =
+    lent_result r log escrow l.heaps.now l.shared.now l.log_values.now l.escrow_values.now l.output.now
 
 -- the writer's answer, with its buffer at exit
 abbrev pub lent_written : WrittenReply → (buffer : List ℕ) → WriteResult

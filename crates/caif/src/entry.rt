@@ -1,43 +1,42 @@
-// What the entries call.
+// What the entries call: the box over lent rows, in a profile.
 ghost use Rattle.std.specs.Prelude.{◌≡◌};
 ghost use Rattle.ideal.specs.LevelOne.{box_of};
-ghost use Rattle.ideal.specs.Tables.{lent_tables};
+ghost use Rattle.calls.specs.Buffers.{tables_in, SameBuffers};
 ghost use Rattle.calls.specs.Entry.{entry_on};
-ghost use Rattle.caif.specs.Lent.{lent_result};
+ghost use Rattle.caif.specs.Lent.{lent_result_in};
 
 use crate::LentReply;
-use crate::lent::lent_call;
+use crate::refusal::refused_rows;
+use calls::{Buffers, call};
 use ideal::{BoxRecord, EscrowRow, LogRow, Profile};
+use rows::{edit_escrow, escrow_unfit, log_unfit, put_log_row};
 
-// lent_call, on a box record that is lent to be read, and no more. It has this caller alone, so the compiler joins the two and
-// then leaves out copies of the tables, which it keeps where the entries call lent_call. A record by value would be copied
-// for the call by an entry to which it is lent (docs/DECISIONS.md).
+// One record in a profile on any box, over lent rows and buffers of any count. The box record is lent to be read: one by value
+// would be copied for the call by an entry to which it is lent (docs/DECISIONS.md).
 pub fn entry_call(
     profile: Profile,
     held: &BoxRecord,
     log: &mut [LogRow],
     escrow: &mut [EscrowRow],
-    heaps: &mut [u8],
-    shared: &mut [u8],
-    log_values: &mut [u8],
-    escrow_values: &mut [u8],
-    output: &mut [u8],
+    lent: &mut Buffers,
     bytes: &[u8],
 ) -> LentReply
-    ensures { lent_result result log.new escrow.new heaps.new shared.new log_values.new escrow_values.new output.new
-        ≡ entry_on (box_of profile) (lent_tables held.now log.old escrow.old heaps.old shared.old log_values.old escrow_values.old)
-        bytes.now output.old }
+    ensures same_buffers { SameBuffers lent.old lent.new }
+    ensures output_after { lent_result_in result log.new escrow.new lent.new
+        ≡ entry_on (box_of profile) (tables_in held.now log.old escrow.old lent.old) bytes.now lent.old.output.now }
 {
-    lent_call(
-        profile,
-        *held,
-        log,
-        escrow,
-        heaps,
-        shared,
-        log_values,
-        escrow_values,
-        output,
-        bytes,
-    )
+    let held = *held;
+    if log_unfit(log, held.log.rows as usize) {
+        return refused_rows(held);
+    }
+    if escrow_unfit(escrow, held.escrow.rows as usize) {
+        return refused_rows(held);
+    }
+    let change = call(profile, held, log, escrow, lent, bytes);
+    put_log_row(log, change.edits.log);
+    edit_escrow(escrow, change.edits.escrow);
+    LentReply {
+        held: change.held,
+        answer: change.answer,
+    }
 }

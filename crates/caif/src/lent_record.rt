@@ -6,6 +6,7 @@ ghost use Rattle.calls.specs.Entry.{entry_on};
 ghost use Rattle.caif.specs.Lent.{lent_result};
 
 use crate::entry::entry_call;
+use calls::Buffers;
 use ideal::{BoxRecord, EscrowRow, LogRow, Profile};
 use state::Answer;
 
@@ -25,18 +26,14 @@ pub fn caif_call_lent(
         ≡ entry_on call_on (lent_tables held.old log.old escrow.old heaps.old shared.old log_values.old escrow_values.old)
         bytes.now output.old }
 {
-    let reply = entry_call(
-        Profile::Full,
-        &*held,
-        log,
-        escrow,
+    let mut lent = Buffers {
         heaps,
         shared,
         log_values,
         escrow_values,
         output,
-        bytes,
-    );
+    };
+    let reply = entry_call(Profile::Full, held, log, escrow, &mut lent, bytes);
     let refused = reply.answer.code != 0;
     if refused {
         return reply.answer;

@@ -3,7 +3,6 @@
 #![tactic(auto)]
 
 mod entry;
-mod lent;
 mod lent_record;
 mod refusal;
 mod writing;
@@ -15,6 +14,7 @@ ghost use Rattle.ideal.specs.LevelOne.{level_one_on};
 ghost use Rattle.calls.specs.Entry.{entry_on};
 ghost use Rattle.caif.specs.Lent.{lent_result};
 
+use calls::Buffers;
 use entry::entry_call;
 use ideal::{BoxRecord, EscrowRow, LogRow, Profile};
 pub use lent_record::caif_call_lent;
@@ -60,18 +60,14 @@ pub fn caif_call(
         ≡ entry_on call_on (lent_tables held log.old escrow.old heaps.old shared.old log_values.old escrow_values.old)
         bytes.now output.old }
 {
-    entry_call(
-        Profile::Full,
-        &held,
-        log,
-        escrow,
+    let mut lent = Buffers {
         heaps,
         shared,
         log_values,
         escrow_values,
         output,
-        bytes,
-    )
+    };
+    entry_call(Profile::Full, &held, log, escrow, &mut lent, bytes)
 }
 
 // The same on the level-one box (document 02, P5).
@@ -90,16 +86,12 @@ pub fn caif_call_level_one(
         ≡ entry_on level_one_on (lent_tables held log.old escrow.old heaps.old shared.old log_values.old escrow_values.old)
         bytes.now output.old }
 {
-    entry_call(
-        Profile::LevelOne,
-        &held,
-        log,
-        escrow,
+    let mut lent = Buffers {
         heaps,
         shared,
         log_values,
         escrow_values,
         output,
-        bytes,
-    )
+    };
+    entry_call(Profile::LevelOne, &held, log, escrow, &mut lent, bytes)
 }

@@ -4,13 +4,13 @@ ghost use Rattle.state.specs.Answers.{refused_with};
 
 use crate::LentReply;
 use ideal::BoxRecord;
-use state::refused;
+use state::{Refusal, refused};
 
 pub fn refused_rows(held: BoxRecord) -> LentReply
     ensures { result ≡ record { held = held; answer = refused_with 15 } }
 {
     LentReply {
         held,
-        answer: refused(15),
+        answer: refused(Refusal::Unsound.number()),
     }
 }

@@ -22,6 +22,7 @@ pub record Ready (t : Tables) (output_size : ℕ) : Type 0 where
   pub output : output_size ≡ 1024
   pub log : TableFits log_table t.box.log t.log_rows t.log_values
   pub escrow : TableFits escrow_table t.box.escrow t.escrow_rows t.escrow_values
+  pub log_count : length t.log_rows ≡ 64
   pub escrow_count : length t.escrow_rows ≡ 64
   pub escrow_used : UsedFits t.box.escrow t.escrow_rows
 
@@ -38,6 +39,7 @@ ready {t} {n} s =
       output = output_size_lem t n s.sizes;
       log = table_fits log_table f.log;
       escrow = table_fits escrow_table f.escrow;
+      log_count = f.log.row_count;
       escrow_count = f.escrow.row_count;
       escrow_used = used_fits f.escrow;
     }

@@ -8,8 +8,9 @@ use lib.Dec.{eqb}
 use borrow.Author.Tests.{eqb-true}
 use Rattle.record.specs.Call.{Call}
 use Rattle.record.specs.declared.Call as code
-use Rattle.record.specs.declared.Reading as found
-use Rattle.record.specs.declared.Reading.TheVariants.{Whole}
+use Rattle.std.specs.Prelude.{Result, Ok}
+use Rattle.record.specs.declared.Read as found
+use Rattle.record.specs.declared.Unread.{Unread}
 use Rattle.record.specs.Read.{refused, read}
 use Rattle.record.specs.Meaning.{call_in, reading_in}
 use Rattle.ideal.specs.State.{State}
@@ -23,12 +24,11 @@ use Rattle.ideal.specs.LevelOne.{refusal_in, box_of}
 use Rattle.lists.proofs.Bools.{and_left, and_right}
 use Rattle.ideal.proofs.Laid.{valid_sound, tables_state}
 use Rattle.ideal.specs.declared.BoxRecord.{BoxRecord}
-use Rattle.state.specs.declared.LogTable.{LogTable}
-use Rattle.state.specs.declared.EscrowTable.{EscrowTable}
+use Rattle.ideal.specs.declared.LogRow.{LogRow}
+use Rattle.ideal.specs.declared.EscrowRow.{EscrowRow}
 use Rattle.state.specs.declared.Answer.{Answer}
 use Rattle.state.specs.declared.Change.{Change}
-use Rattle.state.specs.Edits.{unchanged, EditsBy}
-use Rattle.state.proofs.Edited.{no_edits_lem}
+use Rattle.state.specs.Edits.{unchanged}
 use Rattle.soundness.specs.Parts.{Lent}
 use Rattle.calls.specs.Entry.{EntryResult, result_of, with_used, result_on, entry_on, ready_on, sound_on, carried_in, carried_on}
 use Rattle.levels.specs.Narrow.{own_refusal}
@@ -48,17 +48,15 @@ used_is used x =
       output = x.output;
     }
 
-module _ {b : BoxRecord} {log : LogTable} {escrow : EscrowTable} {heaps shared lv ev output : List ℕ} {r : Change} {x : EntryResult} where
-  -- a call with an answer alone puts no row
-  pub nothing_put : {a : Answer} → r ≡ unchanged b a → result_of log escrow (unchanged b a) heaps shared lv ev output ≡ x
-      → (result_of log escrow r heaps shared lv ev output ≡ x) × EditsBy b escrow.rows r.held r.edits
-  nothing_put e h = (rw e h, rw e (no_edits_lem b escrow.rows b refl refl))
+-- a call with an answer alone puts no row
+pub nothing_put : {b : BoxRecord} {log : List LogRow} {escrow : List EscrowRow} {heaps shared lv ev output : List ℕ} {r : Change} {x : EntryResult} {a : Answer}
+    → r ≡ unchanged b a → result_of log escrow (unchanged b a) heaps shared lv ev output ≡ x → result_of log escrow r heaps shared lv ev output ≡ x
+nothing_put e h = rw e h
 
--- a record of so many bytes puts no other row
-pub with_used_lem : (log : LogTable) (escrow : EscrowTable) {b : BoxRecord} {heaps shared lv ev output : List ℕ} {r c : Change} {used : ℕ} {x y : EntryResult}
-    → r ≡ with_used c used → result_of log escrow c heaps shared lv ev output ≡ y → EditsBy b escrow.rows c.held c.edits → used_is used y ≡ x
-    → (result_of log escrow r heaps shared lv ev output ≡ x) × EditsBy b escrow.rows r.held r.edits
-with_used_lem log escrow {used = used} e h k w = (rw e (ap (used_is used) h ∙ w), rw e k)
+-- the same of a record of so many bytes
+pub with_used_lem : (log : List LogRow) (escrow : List EscrowRow) {heaps shared lv ev output : List ℕ} {r c : Change} {used : ℕ} {x y : EntryResult}
+    → r ≡ with_used c used → result_of log escrow c heaps shared lv ev output ≡ y → used_is used y ≡ x → result_of log escrow r heaps shared lv ev output ≡ x
+with_used_lem log escrow {used = used} e h w = rw e (ap (used_is used) h ∙ w)
 
 -- ---- what the reader finds
 
@@ -68,11 +66,11 @@ unfolding result_on laid settle refuse refused_answer accepted output_after
 settled_used t c used output zero = refl
 settled_used t c used output (suc r) = refl
 
-pub whole_read : (p : Profile) (t : Tables) (bytes output : List ℕ) (r : found.Reading) → reading_in bytes r ≡ read bytes
-    → (c : code.Call) (used : ℕ) → r ≡ Whole c used → used_is used (carried_in p t (call_in bytes c) output) ≡ sound_on p t bytes output
-unfolding carried_in sound_on step_on_by reading_in reading_by step_by
-whole_read p t bytes output r h c used e =
-    rw (← h, e) (settled_used t (call_in bytes c) used output (refusal_in p (state_of t) (call_in bytes c)))
+pub whole_read : (p : Profile) (t : Tables) (bytes output : List ℕ) (r : Result found.Read Unread) → reading_in bytes r ≡ read bytes
+    → (x : found.Read) → r ≡ Ok x → used_is x.used (carried_in p t (call_in bytes x.call) output) ≡ sound_on p t bytes output
+unfolding carried_in sound_on step_on_by reading_by step_by
+whole_read p t bytes output r h x e =
+    rw (← h, e) (settled_used t (call_in bytes x.call) x.used output (refusal_in p (state_of t) (call_in bytes x.call)))
 
 pub refused_read : (p : Profile) {t : Tables} {n : ℕ} → Sound t n → (bytes output : List ℕ) (code number : ℕ)
     → read bytes ≡ refused code number → refused_on t code number output ≡ sound_on p t bytes output

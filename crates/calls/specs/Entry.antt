@@ -3,14 +3,14 @@ use Rattle.std.specs.Prelude.{ℕ, ◌≤◌, ◌<◌, ◌≡◌, Bool, false, �
 use Rattle.record.specs.Call.{Call}
 use Rattle.ideal.specs.declared.Profile.{Profile}
 use Rattle.ideal.specs.declared.Profile.TheVariants.{Full}
+use Rattle.ideal.specs.declared.LogRow.{LogRow}
+use Rattle.ideal.specs.declared.EscrowRow.{EscrowRow}
 use Rattle.ideal.specs.Step.{step_by, step_on_by}
 use Rattle.ideal.specs.Tables.{Tables, state_of}
 use Rattle.ideal.specs.Soundness.{sizes_right, sound}
 use Rattle.ideal.specs.Box.{Element, given, Result, laid, output_after, call_on}
 use Rattle.ideal.specs.LevelOne.{refusal_in}
 use Rattle.ideal.specs.LevelOneDemands.{barring}
-use Rattle.state.specs.declared.LogTable.{LogTable}
-use Rattle.state.specs.declared.EscrowTable.{EscrowTable}
 use Rattle.state.specs.declared.Answer.{Answer}
 use Rattle.state.specs.declared.Change.{Change}
 use Rattle.state.specs.Edits.{changed}
@@ -24,10 +24,10 @@ pub record EntryResult : Type 0 where
   pub output : List ℕ
 
 -- of the code: the tables that came in, with what it changes, and the lent buffers at exit
-abbrev pub result_of : LogTable → EscrowTable → Change → (heaps shared log_values escrow_values output : List ℕ) → EntryResult
+abbrev pub result_of : List LogRow → List EscrowRow → Change → (heaps shared log_values escrow_values output : List ℕ) → EntryResult
 result_of log escrow c heaps shared log_values escrow_values output =
     record {
-      tables = changed c log.rows escrow.rows heaps shared log_values escrow_values;
+      tables = changed c log escrow heaps shared log_values escrow_values;
       answer = c.answer;
       output = output;
     }

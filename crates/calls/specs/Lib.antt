@@ -1,2 +1,3 @@
 pub mod Alone
+pub mod Buffers
 pub mod Entry

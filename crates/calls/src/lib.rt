@@ -5,20 +5,29 @@
 mod dispatch;
 
 ghost use Rattle.std.specs.Prelude.{◌≡◌, length};
-ghost use Rattle.ideal.specs.Layouts.{Sound};
 ghost use Rattle.ideal.specs.LevelOne.{box_of};
-ghost use Rattle.ideal.specs.Tables.{lent_tables};
 ghost use Rattle.state.specs.Parts.{RestBlank};
 ghost use Rattle.state.specs.Answers.{refused_with};
 ghost use Rattle.state.specs.Edits.{unchanged, EditsBy};
-ghost use Rattle.calls.specs.Entry.{result_of, with_used, cut_with, ready_on, sound_on, entry_on};
+ghost use Rattle.calls.specs.Buffers.{tables_in, SoundIn, result_in, SameBuffers};
+ghost use Rattle.calls.specs.Entry.{with_used, cut_with, ready_on, sound_on, entry_on};
 
 pub use dispatch::carry_out_in;
-use ideal::{BoxRecord, Profile};
+use ideal::{BoxRecord, EscrowRow, LogRow, Profile};
 use reader::read_call;
-use record::Reading;
+use record::Unread;
 use sound::{box_sound, sizes_right};
-use state::{Change, EscrowTable, LogTable, refuse};
+use state::{Change, Refusal, change_of, refuse};
+
+// The buffers that a host lends for a call.
+#[derive(Drop)]
+pub struct Buffers<'a> {
+    pub heaps: &'a mut [u8],
+    pub shared: &'a mut [u8],
+    pub log_values: &'a mut [u8],
+    pub escrow_values: &'a mut [u8],
+    pub output: &'a mut [u8],
+}
 
 // The change of a call whose record has so many bytes. The first identity is stored over itself: the compiler then sees the
 // record in parts that it moves without a call of memcpy (docs/DECISIONS.md).
@@ -38,7 +47,7 @@ fn with_used(change: Change, used: usize) -> Change
 fn refuse_cut(held: BoxRecord, missing: usize) -> Change
     ensures { result ≡ unchanged held (cut_with missing) }
 {
-    let mut change = refuse(held, 1);
+    let mut change = refuse(held, Refusal::Cut.number());
     change.answer.number = missing as u64;
     change
 }
@@ -47,69 +56,54 @@ fn refuse_cut(held: BoxRecord, missing: usize) -> Change
 fn refuse_unsound(held: BoxRecord) -> Change
     ensures { result ≡ unchanged held (refused_with 15) }
 {
-    refuse(held, 15)
+    refuse(held, Refusal::Unsound.number())
 }
 
 // Whether the lent buffers are of their sizes and the box is sound, where its unused rows are blank.
-pub fn is_ready(
-    held: BoxRecord,
-    log: LogTable,
-    escrow: EscrowTable,
-    heaps: &[u8],
-    shared: &[u8],
-    log_values: &[u8],
-    escrow_values: &[u8],
-    output: &[u8],
-) -> bool
-    requires { RestBlank held log.rows escrow.rows }
-    ensures { result ≡ ready_on (lent_tables held log.rows escrow.rows heaps.now shared.now log_values.now escrow_values.now)
-        (length output.now) }
+pub fn is_ready(held: BoxRecord, log: &[LogRow], escrow: &[EscrowRow], lent: &Buffers) -> bool
+    requires counted { (length log.now ≡ 64) × (length escrow.now ≡ 64) }
+    requires rest_blank { RestBlank held log.now escrow.now }
+    ensures { result ≡ ready_on (tables_in held log.now escrow.now lent.now) (length lent.now.output.now) }
 {
-    if !sizes_right(heaps, shared, log_values, escrow_values, output) {
-        return false;
-    }
-    box_sound(held, log, escrow, heaps, log_values, escrow_values)
+    sizes_right(
+        lent.heaps,
+        lent.shared,
+        lent.log_values,
+        lent.escrow_values,
+        lent.output,
+    ) && box_sound(
+        held,
+        log,
+        escrow,
+        lent.heaps,
+        lent.log_values,
+        lent.escrow_values,
+    )
 }
 
 // One record in a profile on a box that is known to be sound, with buffers of their sizes.
 pub fn call_sound(
     profile: Profile,
     held: BoxRecord,
-    log: LogTable,
-    escrow: EscrowTable,
-    heaps: &mut [u8],
-    shared: &mut [u8],
-    log_values: &mut [u8],
-    escrow_values: &mut [u8],
-    output: &mut [u8],
+    log: &[LogRow],
+    escrow: &[EscrowRow],
+    lent: &mut Buffers,
     bytes: &[u8],
 ) -> Change
-    requires { Sound (lent_tables held log.rows escrow.rows heaps.old shared.old log_values.old escrow_values.old) (length output.old) }
-    ensures output_after { result_of log escrow result heaps.new shared.new log_values.new escrow_values.new output.new
-        ≡ sound_on profile (lent_tables held log.rows escrow.rows heaps.old shared.old log_values.old escrow_values.old)
-        bytes.now output.old }
-    ensures edits_by { EditsBy held escrow.rows result.held result.edits }
+    requires { SoundIn held log.now escrow.now lent.old }
+    ensures same_buffers { SameBuffers lent.old lent.new }
+    ensures output_after { result_in log.now escrow.now result lent.new
+        ≡ sound_on profile (tables_in held log.now escrow.now lent.old) bytes.now lent.old.output.now }
+    ensures edits_by { EditsBy held escrow.now result.held result.edits }
 {
     match read_call(bytes) {
-        Reading::Whole { call, used } => {
-            let change = carry_out_in(
-                profile,
-                held,
-                log,
-                escrow,
-                heaps,
-                shared,
-                log_values,
-                escrow_values,
-                output,
-                bytes,
-                call,
-            );
-            with_used(change, used)
+        Ok(read) => {
+            let outcome = carry_out_in(profile, held, log, escrow, lent, bytes, read.call);
+            with_used(change_of(held, outcome), read.used)
         }
-        Reading::Cut { missing } => refuse_cut(held, missing),
-        Reading::UnknownKind => refuse(held, 2),
-        Reading::WrongMap => refuse(held, 3),
+        Err(Unread::Cut { missing }) => refuse_cut(held, missing),
+        Err(Unread::UnknownKind) => refuse(held, Refusal::UnknownKind.number()),
+        Err(Unread::WrongMap) => refuse(held, Refusal::WrongMap.number()),
     }
 }
 
@@ -117,43 +111,20 @@ pub fn call_sound(
 pub fn call(
     profile: Profile,
     held: BoxRecord,
-    log: LogTable,
-    escrow: EscrowTable,
-    heaps: &mut [u8],
-    shared: &mut [u8],
-    log_values: &mut [u8],
-    escrow_values: &mut [u8],
-    output: &mut [u8],
+    log: &[LogRow],
+    escrow: &[EscrowRow],
+    lent: &mut Buffers,
     bytes: &[u8],
 ) -> Change
-    requires { RestBlank held log.rows escrow.rows }
-    ensures output_after { result_of log escrow result heaps.new shared.new log_values.new escrow_values.new output.new
-        ≡ entry_on (box_of profile) (lent_tables held log.rows escrow.rows heaps.old shared.old log_values.old escrow_values.old)
-        bytes.now output.old }
-    ensures edits_by { EditsBy held escrow.rows result.held result.edits }
+    requires counted { (length log.now ≡ 64) × (length escrow.now ≡ 64) }
+    requires rest_blank { RestBlank held log.now escrow.now }
+    ensures same_buffers { SameBuffers lent.old lent.new }
+    ensures output_after { result_in log.now escrow.now result lent.new
+        ≡ entry_on (box_of profile) (tables_in held log.now escrow.now lent.old) bytes.now lent.old.output.now }
+    ensures edits_by { EditsBy held escrow.now result.held result.edits }
 {
-    if !is_ready(
-        held,
-        log,
-        escrow,
-        heaps,
-        shared,
-        log_values,
-        escrow_values,
-        output,
-    ) {
+    if !is_ready(held, log, escrow, lent) {
         return refuse_unsound(held);
     }
-    call_sound(
-        profile,
-        held,
-        log,
-        escrow,
-        heaps,
-        shared,
-        log_values,
-        escrow_values,
-        output,
-        bytes,
-    )
+    call_sound(profile, held, log, escrow, lent, bytes)
 }

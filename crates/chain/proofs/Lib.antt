@@ -1,4 +1,2 @@
-pub mod Bytes
-pub mod Rows
 pub mod Links
 pub mod Bridge

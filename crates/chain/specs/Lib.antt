@@ -1,3 +1,3 @@
+pub mod Rows
 pub mod Meaning
-pub mod Columns
 pub mod Narrow

@@ -1,5 +1,5 @@
 -- What following a chain answers, on the parts of the box that it is given.
-use Rattle.std.specs.Prelude.{ℕ, ◌+◌, ◌-◌, ◌≤◌, cond, List, length, drop, eqb}
+use Rattle.std.specs.Prelude.{ℕ, ◌+◌, ◌-◌, cond, List, drop, eqb}
 use Rattle.std.proofs.Math.Option.{Option}
 use Rattle.record.specs.declared.Handle.{Handle}
 use Rattle.record.specs.Call.{Link, identity_of}
@@ -13,16 +13,16 @@ use Rattle.state.specs.declared.Answer.{Answer}
 use Rattle.state.specs.Answers.{settled, answered}
 use Rattle.state.specs.Parts.{log_of}
 use Rattle.retrieval.specs.Narrow.{found_on}
-use Rattle.chain.specs.Meaning.{ValueAndRest}
-use Rattle.chain.specs.Columns.{log_in, found_in, LoggedWithin, EscrowedWithin}
+use Rattle.chain.specs.declared.custody.Custody.{Custody}
+use Rattle.chain.specs.Meaning.{ValueAndRest, log_in, found_in}
 
 -- the next logged value of the chain bytes
-unfoldable pub next_of : List ℕ → OrRefusal ValueAndRest
+abbrev pub next_of : List ℕ → OrRefusal ValueAndRest
 next_of bs = cond (next_cut bs) (refuses 19) (gives (record { value = next_value bs; rest = drop (2 + next_count bs) bs }))
 
 module _ (log : List Logged) (found : ℕ → Handle → Option Escrowed) where
   -- the tests of a link before its head is read
-  unfoldable pub link_refusal : Link → List ℕ → ℕ
+  abbrev pub link_refusal : Link → List ℕ → ℕ
   link_refusal k bs =
       first_holding
       ((19, unreadable k bs) then (9, eqb (identity_of k) 0) then (18, unvouched log found k bs) then accept)
@@ -46,17 +46,6 @@ module _ (b : BoxRecord) (log_rows : List LogRow) (escrow_rows : List EscrowRow)
   chain_answer k bs =
       answered (chain_refusal k bs) (links_from (log_of b log_rows log_values) (found_on b escrow_rows escrow_values) 16 k bs)
 
--- what a link's function is given: columns of n rows of the log and of m rows of the escrow, whose values lie within these
--- bytes; the chain bytes are used up to `at`
-pub record LinkFits (cs : List ℕ) (n m : ℕ) (log_values escrow_values chain : List ℕ) (at left : ℕ) : Type 0 where
-  pub log_rows : n ≤ 64
-  pub escrow_rows : m ≤ 64
-  pub log : LoggedWithin cs n (length log_values)
-  pub escrow : EscrowedWithin cs m (length escrow_values)
-  pub within : at ≤ length chain
-  pub few : left ≤ 16
-
--- the answer from a link on, by such columns
-abbrev pub chain_from : List ℕ → (n m caller : ℕ) → (log_values escrow_values : List ℕ) → ℕ → Link → List ℕ → Answer
-chain_from cs n m caller log_values escrow_values left k bs =
-    followed_from (log_in cs n log_values) (found_in cs m caller escrow_values) left k bs
+-- the answer from a link on
+abbrev pub chain_from : Custody → ℕ → Link → List ℕ → Answer
+chain_from c left k bs = followed_from (log_in c) (found_in c) left k bs

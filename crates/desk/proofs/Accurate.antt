@@ -7,15 +7,17 @@ use mathlib.Core.Path.{◌≡◌, refl, sym, ◌∙◌, ap}
 use mathlib.Core.Bool.{Bool, true, false, cond, ◌&&◌, false≢true}
 use mathlib.Core.Logic.{◌↔◌, ◌⊎◌, inl, inr}
 use mathlib.Core.List.{List, [], ◌∷◌, ◌++◌}
-use Prim.Native.Nat.{ℕ, zero, suc, ◌+◌, ◌*◌, ◌-◌, ◌<◌, ◌≤◌, ◌^◌}
+use Rattle.std.proofs.Common.{Option, Some, None, Ok, Err}
+use Prim.Native.Nat.{ℕ, ◌+◌, ◌*◌, ◌<◌, ◌^◌}
 use native.Mathlib.Nat.{le_of_lt}
 use native.Mathlib.Omega.{arith}
-use lib.ListN.{length, get_or}
+use Rattle.std.proofs.lemmas.Int.{ints}
+use Rattle.std.proofs.lemmas.List.{get_or_append_left, get_or_at}
+use lib.ListN.{length}
 use lib.Seq.{take-append_seam, take-append-le}
-use lib.Dec.{T, eqb, ltb}
-use lib.IntN.{ℤ, pos, negsuc, ◌+ℤ◌, ◌-ℤ◌}
-use lib.Signed.{lt_z, le_z, ◌<ℤ◌}
-use borrow.Author.Tests.{eq-eqb, eqb-true, eqb-false, lt-ltb, ltb-true, ltb-false, le-leb, leb-true, ne_eqb}
+use lib.Dec.{eqb, ltb}
+use lib.IntN.{ℤ, pos, ◌+ℤ◌, ◌-ℤ◌}
+use borrow.Author.Tests.{eq-eqb, eqb-true, eqb-false, ne_eqb}
 use Rattle.lists.proofs.Bools.{by_cases, and_left, and_right, and_true}
 use Rattle.fnv.specs.declared.Tag.{Tag}
 use Rattle.record.specs.Read.{whole, read}
@@ -32,35 +34,16 @@ use Rattle.ideal.proofs.Demanded.{demands}
 use Rattle.ideal.proofs.ProfilesDemanded.{both_demands, profiles_are}
 use Rattle.desk.specs.declared.Tank.{Tank}
 use Rattle.desk.specs.declared.Claim.{Claim}
-use Rattle.desk.specs.declared.Checked.{Checked}
 use Rattle.desk.specs.declared.TankAnswer.{TankAnswer}
-use Rattle.desk.specs.declared.Correction.{Correction}
-use Rattle.desk.specs.declared.Correction.TheVariants.{NotGiven, Given}
-use Rattle.desk.specs.Decision.{between, in_range, correction_in_range, signed, told, answer_of, decided, says_yes, corrected, judged, claim_of, correction_of, desk_by}
+use Rattle.desk.specs.Decision.{Checked, refusal_of, between, in_range, correction_in_range, signed, told, answer_of, decided, says_yes, corrected, judged, claim_of, correction_of, desk_by}
 use Rattle.desk.specs.Desk.{check_of, check_element, checked_on, desk_on}
 use Rattle.desk.specs.Accuracy as S
 use Rattle.desk.specs.Accuracy.{Within, TwosComplement, SignedIsTwosComplement, DeskOnAny, DeskIsAccurate}
+use Rattle.desk.proofs.Ranges.{is_within, within_is}
 use Rattle.desk.proofs.Record.{reads}
 use Rattle.desk.proofs.Answering.{answers_15, answers_9, answers_0, row_is_one, no_row_is_none, one_or_none}
 
 -- ---- tests, and the order that they decide
-
-holds : (b : Bool) → b ≡ true → T b
-holds true e = tt
-holds false e = absurd (false≢true e)
-
-is_true : (b : Bool) → T b → b ≡ true
-is_true true t = refl
-is_true false t = absurd t
-
-is_within : (low high x : ℤ) → between low high x ≡ true → Within low high x
-unfolding between
-is_within low high x e =
-    (record { le = holds _ (and_left (le_z low x) _ e) }, record { le = holds _ (and_right (le_z low x) _ e) })
-
-within_is : (low high x : ℤ) → Within low high x → between low high x ≡ true
-unfolding between
-within_is low high x w = and_true (le_z low x) (le_z x high) (is_true (le_z low x) w.0.le) (is_true (le_z x high) w.1.le)
 
 not_within : (low high x : ℤ) → between low high x ≡ false → Within low high x → ⊥
 not_within low high x e w = false≢true (sym e ∙ within_is low high x w)
@@ -69,103 +52,43 @@ within_not : (low high x : ℤ) → (Within low high x → ⊥) → between low 
 within_not low high x n = by_cases (between low high x) (λ e. absurd (n (is_within low high x e))) (λ e. e)
 
 -- the action for a difference
-record Acts (d : ℤ) (a : TankAnswer) : Type 0 where
-  cool : (a.action ≡ 2) ↔ (pos 50 <ℤ d)
-  warm : (a.action ≡ 3) ↔ (d <ℤ negsuc 49)
-  hold : (a.action ≡ 1) ↔ Within (negsuc 49) (pos 50) d
-  code : a.code ≡ 0
-  refusal : a.refusal ≡ 0
-
-acts : (d : ℤ) → Acts d (decided d)
-unfolding decided answer_of told
-acts (pos n) =
-    by_cases (ltb 50 n)
-    (λ e.
-    rw e
-    (record {
-      cool = (λ _. record { lt = holds _ e }, λ _. refl);
-      warm = (λ z. absurd (omega arith), λ l. absurd l.lt);
-      hold = (λ z. absurd (omega arith), λ w. absurd (omega (arith, ltb-true 50 n e, leb-true n 50 (is_true _ w.1.le))));
-      code = refl;
-      refusal = refl;
-    }))
-    (λ e.
-    let l : n ≤ 50 = ltb-false 50 n e in
-    rw e
-    (record {
-      cool = (λ z. absurd (omega arith), λ l. absurd (false≢true (sym e ∙ is_true _ l.lt)));
-      warm = (λ z. absurd (omega arith), λ l. absurd l.lt);
-      hold = (λ z. (record { le = tt }, record { le = holds _ (le-leb n 50 l) }), λ _. refl);
-      code = refl;
-      refusal = refl;
-    }))
-acts (negsuc n) =
-    by_cases (ltb 49 n)
-    (λ e.
-    rw e
-    (record {
-      cool = (λ z. absurd (omega arith), λ l. absurd l.lt);
-      warm = (λ _. record { lt = holds _ e }, λ _. refl);
-      hold = (λ z. absurd (omega arith), λ w. absurd (omega (arith, ltb-true 49 n e, leb-true n 49 (is_true _ w.0.le))));
-      code = refl;
-      refusal = refl;
-    }))
-    (λ e.
-    let l : n ≤ 49 = ltb-false 49 n e in
-    rw e
-    (record {
-      cool = (λ z. absurd (omega arith), λ l. absurd l.lt);
-      warm = (λ z. absurd (omega arith), λ l. absurd (false≢true (sym e ∙ is_true _ l.lt)));
-      hold = (λ z. (record { le = holds _ (le-leb n 49 l) }, record { le = tt }), λ _. refl);
-      code = refl;
-      refusal = refl;
-    }))
-
 decides : (k : Tank) (x : ℤ) {a : TankAnswer} → a ≡ decided (k.reading +ℤ x -ℤ k.setpoint) → S.Decides k x a
+unfolding decided answer_of told
 decides k x q =
-    let d = acts (k.reading +ℤ x -ℤ k.setpoint) in
-    rw q (record { cool = d.cool; warm = d.warm; hold = d.hold; code = d.code; refusal = d.refusal })
+    rw q
+    (record {
+      cool = (λ z. grind (arith, ints), λ l. grind (arith, ints));
+      warm = (λ z. grind (arith, ints), λ l. grind (arith, ints));
+      hold = (λ z. (grind (arith, ints), grind (arith, ints)), λ w. grind (arith, ints));
+      code = grind (arith, ints);
+      refusal = grind (arith, ints);
+    })
 
 -- reading and setpoint, as tests
-abbrev InRange : Tank → Type 0
-InRange k = (in_range k.reading ≡ true) × (in_range k.setpoint ≡ true)
-
-range_is : (k : Tank) → S.InRange k → InRange k
+both : (k : Tank) → S.InRange k → in_range k.reading && in_range k.setpoint ≡ true
 unfolding in_range
-range_is k r = (within_is _ _ k.reading r.0, within_is _ _ k.setpoint r.1)
+both k r = and_true _ _ (within_is _ _ k.reading r.0) (within_is _ _ k.setpoint r.1)
 
-is_range : (k : Tank) → InRange k → S.InRange k
+both_are : (k : Tank) → in_range k.reading && in_range k.setpoint ≡ true → S.InRange k
 unfolding in_range
-is_range k r = (is_within _ _ k.reading r.0, is_within _ _ k.setpoint r.1)
+both_are k e =
+    (is_within _ _ k.reading (and_left (in_range k.reading) _ e), is_within _ _ k.setpoint (and_right (in_range k.reading) _ e))
 
 -- ---- two's complement
 
-module _ (low high : ℕ) (l : low < 256) (h : high < 256) where
-  abbrev n : ℕ
-  n = low + 256 * high
-
-  small : ltb n 32768 ≡ true → TwosComplement low high
-  unfolding signed between
-  small e =
-      let k : n ≤ 32767 = let m = ltb-true n 32768 e in omega (arith, m) in
-      record { is = rw e (inl refl); holds = is_within _ _ _ (rw (e, le-leb n 32767 k)) }
-
-  large : ltb n 32768 ≡ false → TwosComplement low high
-  unfolding signed between
-  large e =
-      let m = ltb-false n 32768 e in
-      let k : n < 65536 = omega (arith, l, h) in
-      let j : 65536 - suc n ≤ 32767 = omega (arith, m) in
-      record { is = rw e (inr refl); holds = is_within _ _ _ (rw (e, lt-ltb n 65536 k, le-leb (65536 - suc n) 32767 j)) }
-
 pub signed_is_twos_complement : SignedIsTwosComplement
-signed_is_twos_complement low high l h = by_cases (ltb (low + 256 * high) 32768) (small low high l h) (large low high l h)
+unfolding signed
+signed_is_twos_complement low high l h =
+    record {
+      is = by_cases (ltb (low + 256 * high) 32768) (λ e. inl (rw e)) (λ e. inr (rw e));
+      holds = (grind (arith, ints), grind (arith, ints));
+    }
 
 -- ---- the answer of a tank, part by part
 
 -- a tank that makes this claim
 record Gives (k : Tank) (g : Claim) : Type 0 where
-  is : correction_of k ≡ Given g
+  is : correction_of k ≡ Some g
   probe : g.probe < 2 ^ 64
   tag : g.tag.0 < 2 ^ 64
 
@@ -179,31 +102,26 @@ WasLogged box es g = Earlier (LogsAt box es g.probe (g.low ∷ g.high ∷ []) g.
 -- a decision is no refusal
 decided_code : (d : ℤ) → (decided d).code ≡ 0
 unfolding decided answer_of told
-decided_code d =
-    by_cases (lt_z (pos 50) d) (λ e. rw e) (λ e. by_cases (lt_z d (negsuc 49)) (λ f. rw (e, f)) (λ f. rw (e, f)))
+decided_code d = grind (arith, ints)
 
 module _ (box : Tables → Element → Result) (t : Tables) (size : ℕ) (k : Tank) where
   abbrev answer : TankAnswer
   answer = desk_on box t size k
 
-  abbrev both : InRange k → (in_range k.reading && in_range k.setpoint) ≡ true
-  both r = and_true _ _ r.0 r.1
-
   -- where reading and setpoint are in range
-  in_range_lem : InRange k → answer ≡ judged (checked_on box t size) k.reading k.setpoint (correction_of k)
+  in_range_lem : S.InRange k → answer ≡ judged (checked_on box t size) k.reading k.setpoint (correction_of k)
   unfolding desk_on desk_by
-  in_range_lem r = rw (both r)
+  in_range_lem r = rw (both k r)
 
-  out : (InRange k → ⊥) → answer ≡ told 24 0 0
+  out : (S.InRange k → ⊥) → answer ≡ told 24 0 0
   unfolding desk_on desk_by answer_of
-  out z =
-      by_cases (in_range k.reading && in_range k.setpoint) (λ e. absurd (z (and_left (in_range k.reading) (in_range k.setpoint) e, and_right (in_range k.reading) (in_range k.setpoint) e))) (λ e. rw e)
+  out z = by_cases (in_range k.reading && in_range k.setpoint) (λ e. absurd (z (both_are k e))) (λ e. rw e)
 
-  without : InRange k → correction_of k ≡ NotGiven → answer ≡ decided (k.reading +ℤ pos 0 -ℤ k.setpoint)
+  without : S.InRange k → correction_of k ≡ None → answer ≡ decided (k.reading +ℤ pos 0 -ℤ k.setpoint)
   unfolding judged
   without r e = in_range_lem r ∙ rw e
 
-  module _ (g : Claim) (r : InRange k) (is : correction_of k ≡ Given g) where
+  module _ (g : Claim) (r : S.InRange k) (is : correction_of k ≡ Some g) where
     abbrev c : Checked
     c = checked_on box t size g
 
@@ -211,7 +129,7 @@ module _ (box : Tables → Element → Result) (t : Tables) (size : ℕ) (k : Ta
     unfolding judged
     yes_is y = in_range_lem r ∙ rw (is, y)
 
-    no_is : says_yes c ≡ false → answer ≡ told 25 0 c.code
+    no_is : says_yes c ≡ false → answer ≡ told 25 0 (refusal_of c)
     unfolding judged answer_of
     no_is y = in_range_lem r ∙ rw (is, y)
 
@@ -229,26 +147,19 @@ unfolding corrected
 corrected_small reading setpoint x e = rw e
 
 -- a correction gets 0 or 26, and no other code
-corrected_no : (reading setpoint x : ℤ) (n : ℕ) → eqb 0 n ≡ false → eqb 26 n ≡ false → (corrected reading setpoint x).code ≡ n → ⊥
-unfolding told
-corrected_no reading setpoint x n a b e =
-    by_cases (correction_in_range x)
-    (λ s. apart 0 n a (sym (decided_code _) ∙ ap (λ (y : TankAnswer). y.code) (sym (corrected_small reading setpoint x s)) ∙ e))
-    (λ s. apart 26 n b (ap (λ (y : TankAnswer). y.code) (sym (corrected_code reading setpoint x s)) ∙ e))
+corrected_no : (reading setpoint x : ℤ) → (corrected reading setpoint x).code ≡ 25 → ⊥
+unfolding corrected decided answer_of told
+corrected_no reading setpoint x e = grind (arith, ints)
 
 -- in range there is no 24
-judged_no : (check : Claim → Checked) (reading setpoint : ℤ) (q : Correction) → (judged check reading setpoint q).code ≡ 24 → ⊥
-unfolding judged answer_of told
-judged_no check reading setpoint NotGiven e = apart 0 24 refl (sym (decided_code _) ∙ e)
-judged_no check reading setpoint (Given g) e =
-    by_cases (says_yes (check g))
-    (λ y. corrected_no reading setpoint (amount g) 24 refl refl
-    (ap (λ (b : Bool). (cond b (corrected reading setpoint (amount g)) (told 25 0 (check g).code)).code) (sym y) ∙ e))
-    (λ y. apart 25 24 refl (ap (λ (b : Bool). (cond b (corrected reading setpoint (amount g)) (told 25 0 (check g).code)).code) (sym y) ∙ e))
+judged_no : (check : Claim → Checked) (reading setpoint : ℤ) (q : Option Claim) → (judged check reading setpoint q).code ≡ 24 → ⊥
+unfolding judged corrected decided answer_of told
+judged_no check reading setpoint None e = grind (arith, ints)
+judged_no check reading setpoint (Some g) e = grind (arith, ints)
 
 -- ---- on any tables
 
-module _ (t : Tables) (size : ℕ) (k : Tank) (g : Claim) (r : InRange k) (gives : Gives k g) where
+module _ (t : Tables) (size : ℕ) (k : Tank) (g : Claim) (r : S.InRange k) (gives : Gives k g) where
   abbrev a : Answer
   a = (call_on t (check_element g size)).answer
 
@@ -258,35 +169,48 @@ module _ (t : Tables) (size : ℕ) (k : Tank) (g : Claim) (r : InRange k) (gives
   abbrev ready : Bool
   ready = sizes_right t size && sound t
 
+  abbrev check : Checked
+  check = checked_on call_on t size g
+
+  check_refused : (m : ℕ) → eqb m 0 ≡ false → a.code ≡ m → check ≡ Err m
+  unfolding checked_on
+  check_refused m z e = rw (e, z)
+
+  check_accepted : a.code ≡ 0 → check ≡ Ok a.number
+  unfolding checked_on
+  check_accepted e = rw (eq-eqb _ _ e)
+
   refused : (m : ℕ) → eqb m 0 ≡ false → a.code ≡ m → the_answer ≡ told 25 0 m
-  unfolding says_yes checked_on
+  unfolding says_yes refusal_of
   refused m z e =
-      no_is call_on t size k g r gives.is (ap (λ (c : ℕ). eqb c 0 && eqb a.number 1) e ∙ ap (λ (b : Bool). b && eqb a.number 1) z)
-      ∙ ap (told 25 0) e
+      let c = check_refused m z e in
+      no_is call_on t size k g r gives.is (ap says_yes c) ∙ ap (λ (x : Checked). told 25 0 (refusal_of x)) c
 
   said_no : a.code ≡ 0 → eqb a.number 1 ≡ false → the_answer ≡ told 25 0 0
-  unfolding says_yes checked_on
-  said_no e n = no_is call_on t size k g r gives.is (rw (eq-eqb _ _ e, n)) ∙ ap (told 25 0) e
+  unfolding says_yes refusal_of
+  said_no e other =
+      let c = check_accepted e in
+      no_is call_on t size k g r gives.is (ap says_yes c ∙ other) ∙ ap (λ (x : Checked). told 25 0 (refusal_of x)) c
 
   said_yes : a.code ≡ 0 → a.number ≡ 1 → the_answer ≡ corrected k.reading k.setpoint (amount g)
-  unfolding says_yes checked_on
-  said_yes e n = yes_is call_on t size k g r gives.is (rw (eq-eqb _ _ e, eq-eqb _ _ n))
+  unfolding says_yes
+  said_yes e one = yes_is call_on t size k g r gives.is (ap says_yes (check_accepted e) ∙ eq-eqb _ _ one)
 
-  abbrev refusal_of : TankAnswer → ℕ
-  refusal_of x = x.refusal
+  abbrev shown : TankAnswer → ℕ
+  shown x = x.refusal
 
   -- an accepted check is shown with no other number
   accepted_zero : (m : ℕ) → a.code ≡ 0 → the_answer ≡ told 25 0 m → 0 ≡ m
   unfolding told
   accepted_zero m e s =
       by_cases (eqb a.number 1)
-      (λ n. absurd (corrected_no k.reading k.setpoint (amount g) 25 refl refl
+      (λ n. absurd (corrected_no k.reading k.setpoint (amount g)
       (ap (λ (x : TankAnswer). x.code) (sym (said_yes e (eqb-true _ _ n)) ∙ s))))
-      (λ n. ap refusal_of (sym (said_no e n) ∙ s))
+      (λ n. ap shown (sym (said_no e n) ∙ s))
 
   other : {P : Type 0} (m n : ℕ) → eqb m n ≡ false → the_answer ≡ told 25 0 m → the_answer ≡ told 25 0 n → P
   unfolding told
-  other m n z e f = apart m n z (ap refusal_of (sym e ∙ f))
+  other m n z e f = apart m n z (ap shown (sym e ∙ f))
 
   shows_15 : (the_answer ≡ told 25 0 15) ↔ (ready ≡ false)
   shows_15 = (
@@ -336,18 +260,18 @@ desk_on_any t size k =
       out_of_range = (
         λ e r.
             judged_no (checked_on call_on t size) k.reading k.setpoint (correction_of k)
-            (ap (λ (x : TankAnswer). x.code) (sym (in_range_lem call_on t size k (range_is k r))) ∙ e),
-        λ z. ap (λ (x : TankAnswer). x.code) (out call_on t size k (λ r. z (is_range k r))),
+            (ap (λ (x : TankAnswer). x.code) (sym (in_range_lem call_on t size k r)) ∙ e),
+        λ z. ap (λ (x : TankAnswer). x.code) (out call_on t size k z),
       );
       nothing_else = λ e.
           out call_on t size k
           (λ r. judged_no (checked_on call_on t size) k.reading k.setpoint (correction_of k)
           (ap (λ (x : TankAnswer). x.code) (sym (in_range_lem call_on t size k r)) ∙ e));
-      without = λ r z. decides k (pos 0) (without call_on t size k (range_is k r) (rw (eq-eqb k.given 0 z)));
-      unsound = λ r gives. shows_15 t size k (claim_of k) (range_is k r) (claims k gives);
-      identity_zero = λ r gives. shows_9 t size k (claim_of k) (range_is k r) (claims k gives);
+      without = λ r z. decides k (pos 0) (without call_on t size k r (rw (eq-eqb k.given 0 z)));
+      unsound = λ r gives. shows_15 t size k (claim_of k) r (claims k gives);
+      identity_zero = λ r gives. shows_9 t size k (claim_of k) r (claims k gives);
       by_the_log = λ r gives y z.
-          let q = by_the_log t size k (claim_of k) (range_is k r) (claims k gives) y z in
+          let q = by_the_log t size k (claim_of k) r (claims k gives) y z in
           record {
             counts = λ e s. counted k _ (q ∙ rw e) s;
             large = λ e s. too_large k _ (q ∙ rw e) s;
@@ -356,15 +280,6 @@ desk_on_any t size k =
     }
 
 -- ---- after a list of calls
-
-get_d_front : (es : List Element) (e d : Element) (j : ℕ) → j < length es → get_or (es ++ (e ∷ [])) j d ≡ get_or es j d
-get_d_front [] e d j l = absurd (omega (arith, l))
-get_d_front (x ∷ es) e d zero l = refl
-get_d_front (x ∷ es) e d (suc j) l = get_d_front es e d j (omega (arith, l))
-
-get_d_last : (es : List Element) (e d : Element) → get_or (es ++ (e ∷ [])) (length es) d ≡ e
-get_d_last [] e d = refl
-get_d_last (x ∷ es) e d = get_d_last es e d
 
 -- of a box whose checks are accurate and that answers the desk's as the full box does
 module _ (box : Tables → Element → Result) (accurate : CheckIsAccurate box)
@@ -394,7 +309,7 @@ module _ (box : Tables → Element → Result) (accurate : CheckIsAccurate box)
 
     front : (j : ℕ) → j < length es → element_at es j ≡ element_at es' j
     unfolding element_at
-    front j l = sym (get_d_front es e _ j l)
+    front j l = sym (get_or_append_left es (e ∷ []) _ j l)
 
     before : (j : ℕ) → j < length es → tables_before box es j ≡ tables_before box es' j
     unfolding tables_before
@@ -403,7 +318,7 @@ module _ (box : Tables → Element → Result) (accurate : CheckIsAccurate box)
     -- the call after the list
     last : answer_at box es' (length es) ≡ (box (tables_after box es) e).answer
     unfolding answer_at tables_before element_at
-    last i = (box (tables_after box (take-append_seam es (e ∷ []) i)) (get_d_last es e (given [] 0) i)).answer
+    last i = (box (tables_after box (take-append_seam es (e ∷ []) i)) (get_or_at es e [] (given [] 0) (length es) refl i)).answer
 
     module _ (i : ℕ) (v : List ℕ) (tag : Tag) where
       further : Earlier (LogsAt box es i v tag) (length es) → Earlier (LogsAt box es' i v tag) (length es)
@@ -414,7 +329,7 @@ module _ (box : Tables → Element → Result) (accurate : CheckIsAccurate box)
       back l =
           record { index = l.index; before = l.before; there = moved es' es l.index (sym (front l.index l.before)) (sym (before l.index l.before)) i v tag l.there }
 
-  module _ (es : List Element) (size : ℕ) (k : Tank) (g : Claim) (r : InRange k) (gives : Gives k g) where
+  module _ (es : List Element) (size : ℕ) (k : Tank) (g : Claim) (r : S.InRange k) (gives : Gives k g) where
     abbrev e : Element
     e = check_element g size
 
@@ -432,7 +347,7 @@ module _ (box : Tables → Element → Result) (accurate : CheckIsAccurate box)
 
     as_desk : desk ≡ desk_on call_on t size k
     unfolding desk_on checked_on
-    as_desk i = desk_by (λ c. record { code = (as_full t c size i).answer.code; number = (as_full t c size i).answer.number }) k
+    as_desk i = desk_by (λ c. let x = (as_full t c size i).answer in cond (eqb x.code 0) (Ok x.number) (Err x.code)) k
 
     answered : answer_at box (es' es e) (length es) ≡ b
     answered = last es e ∙ ap (λ (x : Result). x.answer) (as_full t g size)
@@ -440,7 +355,7 @@ module _ (box : Tables → Element → Result) (accurate : CheckIsAccurate box)
     -- what is stated of the check that the desk makes, as the call after the list
     record_is : read (element_at (es' es e) (length es)).bytes ≡ whole (check_of g) (length (write (check_of g)))
     unfolding element_at check_element
-    record_is = ap (λ (x : Element). read x.bytes) (get_d_last es e _) ∙ reads g gives.probe gives.tag
+    record_is = ap (λ (x : Element). read x.bytes) (get_or_at es e [] _ (length es) refl) ∙ reads g gives.probe gives.tag
 
     check_at : CheckAt box (es' es e) (length es) g.probe g.tag v
     unfolding check_of
@@ -454,7 +369,7 @@ module _ (box : Tables → Element → Result) (accurate : CheckIsAccurate box)
 
     sized : (element_at (es' es e) (length es)).output_size ≡ size
     unfolding element_at check_element
-    sized = ap (λ (x : Element). x.output_size) (get_d_last es e _)
+    sized = ap (λ (x : Element). x.output_size) (get_or_at es e [] _ (length es) refl)
 
     -- yes and no, said of the list itself
     yes_when : ((b.code ≡ 0) × (b.number ≡ 1)) ↔ ((size ≡ 1024) × WasLogged box es g)
@@ -539,10 +454,9 @@ module _ (box : Tables → Element → Result) (accurate : CheckIsAccurate box)
 
   accurate_desk : DeskIsAccurate box
   unfolding correction_in_range
-  accurate_desk es size k range given =
+  accurate_desk es size k r given =
       let g = claim_of k in
       let gives = claims k given in
-      let r = range_is k range in
       let o = outcome es size k g r gives in
       record {
         decides = (

@@ -1,6 +1,8 @@
 -- A check alters nothing and shows nothing, whatever the box answers: by what is stated of one call and of refusals.
 -- Assumes nothing.
 use mathlib.Core.Path.{◌≡◌, ◌∙◌, ap}
+use mathlib.Core.Bool.{cond}
+use Rattle.std.proofs.Common.{Ok, Err}
 use mathlib.Core.List.{List, []}
 use Prim.Native.Nat.{ℕ, ◌<◌, ◌^◌}
 use lib.ListN.{length}
@@ -9,15 +11,18 @@ use borrow.Author.Tests.{eqb-true, eqb-false}
 use Rattle.lists.proofs.Bools.{by_cases}
 use Rattle.record.specs.Write.{write}
 use Rattle.ideal.specs.declared.BoxRecord.{BoxRecord}
+use Rattle.ideal.specs.declared.LogRow.{LogRow}
+use Rattle.ideal.specs.declared.EscrowRow.{EscrowRow}
 use Rattle.ideal.specs.Tables.{Tables, lent_tables}
 use Rattle.ideal.specs.Box.{Result, call_on, output_after}
 use Rattle.ideal.specs.OneCall.{leaves, shows}
 use Rattle.ideal.proofs.Demanded.{demands}
-use Rattle.state.specs.declared.LogTable.{LogTable}
-use Rattle.state.specs.declared.EscrowTable.{EscrowTable}
 use Rattle.state.specs.declared.Change.{Change}
-use Rattle.calls.specs.Entry.{EntryResult, result_of, result_on, entry_on}
+use Rattle.calls.specs.declared.Buffers.{Buffers}
+use Rattle.calls.specs.Buffers.{tables_in, result_in}
+use Rattle.calls.specs.Entry.{EntryResult, result_on, entry_on}
 use Rattle.desk.specs.declared.Claim.{Claim}
+use Rattle.desk.specs.Decision.{Checked}
 use Rattle.desk.specs.Desk.{check_of, check_element, checked_on}
 use Rattle.desk.specs.Results.{check_result, check_leaves}
 use Rattle.desk.proofs.Record.{reads}
@@ -47,29 +52,22 @@ module _ (t : Tables) (g : Claim) (size : ℕ) (p : g.probe < 2 ^ 64) (x : g.tag
   unfolding output_after
   output_kept out = rw unaltered.shown
 
--- what the entry by value answers and leaves to a check
-module _ (held : BoxRecord) (log : LogTable) (escrow : EscrowTable) (heaps shared log_values escrow_values output : List ℕ) (g : Claim) (p : g.probe < 2 ^ 64) (x : g.tag.0 < 2 ^ 64) where
+-- what the entry answers and leaves to a check
+module _ (held : BoxRecord) (log : List LogRow) (escrow : List EscrowRow) (l : Buffers) (g : Claim) (p : g.probe < 2 ^ 64) (x : g.tag.0 < 2 ^ 64) where
   abbrev t : Tables
-  t = lent_tables held log.rows escrow.rows heaps shared log_values escrow_values
+  t = tables_in held log escrow l
 
-  pub checked : (r : Change) (heaps' shared' log_values' escrow_values' output' bytes : List ℕ) → bytes ≡ write (check_of g)
-      → result_of log escrow r heaps' shared' log_values' escrow_values' output' ≡ entry_on call_on t bytes output
-      → check_result (record { code = r.answer.code; number = r.answer.number }) (lent_tables held log.rows escrow.rows heaps' shared' log_values' escrow_values') output'
-      ≡ check_leaves call_on t output g
+  pub checked : (r : Change) (l' : Buffers) (bytes : List ℕ) → bytes ≡ write (check_of g)
+      → result_in log escrow r l' ≡ entry_on call_on t bytes l.output.now
+      → (c : Checked) → c ≡ cond (eqb r.answer.code 0) (Ok r.answer.number) (Err r.answer.code)
+      → check_result c (tables_in held log escrow l') l'.output.now ≡ check_leaves call_on t l.output.now g
   unfolding entry_on result_on checked_on check_element
-  checked r heaps' shared' log_values' escrow_values' output' bytes b e =
-      let e' = e ∙ ap (λ (bs : List ℕ). entry_on call_on t bs output) b in
-      let u = ap (λ (a : EntryResult). a.tables) e' ∙ (unaltered t g (length output) p x).tables in
+  checked r l' bytes b e c ec =
+      let e' = e ∙ ap (λ (bs : List ℕ). entry_on call_on t bs l.output.now) b in
+      let n = length l.output.now in
+      let u = ap (λ (a : EntryResult). a.tables) e' ∙ (unaltered t g n p x).tables in
       λ i. record {
-        answer = record { code = (e' i).answer.code; number = (e' i).answer.number };
-        tables = record {
-          box = held;
-          heaps = (u i).heaps;
-          shared = (u i).shared;
-          log_rows = log.rows;
-          log_values = (u i).log_values;
-          escrow_rows = escrow.rows;
-          escrow_values = (u i).escrow_values;
-        };
-        output = (ap (λ (a : EntryResult). a.output) e' ∙ output_kept t g (length output) p x output) i;
+        answer = (ec ∙ ap (λ (a : EntryResult). cond (eqb a.answer.code 0) (Ok a.answer.number) (Err a.answer.code)) e') i;
+        tables = lent_tables held log escrow (u i).heaps (u i).shared (u i).log_values (u i).escrow_values;
+        output = (ap (λ (a : EntryResult). a.output) e' ∙ output_kept t g n p x l.output.now) i;
       }

@@ -11,8 +11,7 @@ use Rattle.ideal.specs.Tables.{Tables}
 use Rattle.ideal.specs.Box.{Element, Result}
 use Rattle.desk.specs.declared.Tank.{Tank}
 use Rattle.desk.specs.declared.TankAnswer.{TankAnswer}
-use Rattle.desk.specs.declared.Checked.{Checked}
-use Rattle.desk.specs.Decision.{in_range, judged, correction_of, desk_by}
+use Rattle.desk.specs.Decision.{Checked, in_range, judged, correction_of, desk_by}
 use Rattle.desk.specs.Desk.{desk_on}
 use Rattle.desk.specs.Results.{needs_box, Left, check_result, desk_result, asked_leaves, desk_leaves}
 

@@ -1,16 +1,10 @@
-pub mod Signs
+pub mod Ranges
 pub mod Record
 pub mod Asked
 pub mod Desked
-pub mod Held
-pub mod Mapped
-pub mod Listed
 pub mod Bounded
 pub mod Answering
 pub mod Accurate
 pub mod Unasked
 pub mod Lists
 pub mod Shifted
-pub mod Slices
-pub mod Handed
-pub mod Entered

@@ -1,84 +1,53 @@
--- Lists of tanks and of answers by value. Assumes nothing.
-use Prim.Native.Nat.{ℕ, ◌≤◌}
-use mathlib.Core.Path.{◌≡◌, refl, ◌∙◌, ap}
-use mathlib.Core.Bool.{true, false}
-use mathlib.Core.List.{List, [], ◌∷◌, ◌++◌, map}
-use lib.ListN.{length, take, drop, get_or}
-use lib.Dec.{eqb, leb}
-use borrow.Author.Tests.{eqb-true, eqb-false, leb-true}
-use Rattle.lists.proofs.Bools.{by_cases, and_left, and_right}
-use Rattle.ideal.specs.declared.BoxRecord.{BoxRecord}
-use Rattle.ideal.specs.declared.LogRow.{LogRow}
-use Rattle.ideal.specs.declared.EscrowRow.{EscrowRow}
-use Rattle.ideal.specs.Tables.{Tables, lent_tables}
+-- Lists of tanks and of their answers. Assumes nothing.
+use Prim.Native.Nat.{ℕ, ◌+◌, ◌<◌}
+use native.Mathlib.Omega.{arith}
+use mathlib.Core.Path.{◌≡◌, refl, ap}
+use mathlib.Core.Bool.{false}
+use mathlib.Core.List.{List, ◌++◌, map}
+use lib.ListN.{length, take, drop, get_or, set, length-map, length-take}
+use Rattle.std.proofs.lemmas.List.{append_assoc, drop_more, set_at, map_more}
+use Rattle.std.proofs.lemmas.Bool.Decides.{nat_tests}
+use lib.Dec.{eqb}
+use Rattle.ideal.specs.Tables.{Tables}
 use Rattle.ideal.specs.Box.{call_on}
-use Rattle.state.specs.declared.LogTable.{LogTable}
-use Rattle.state.specs.declared.EscrowTable.{EscrowTable}
 use Rattle.desk.specs.declared.Tank.{Tank}
 use Rattle.desk.specs.declared.TankAnswer.{TankAnswer}
-use Rattle.desk.specs.declared.Tanks.{Tanks}
-use Rattle.desk.specs.declared.Answers.{Answers}
-use Rattle.desk.specs.Desk.{is_list, shift_code, desk_on, shift_on}
-use Rattle.desk.specs.Results.{desk_result, desk_leaves, list_result, list_leaves, shift_result, shift_leaves, blank_tanks, padded, Left}
+use Rattle.desk.specs.declared.list.ListRefusal.{ListRefusal}
+use Rattle.desk.specs.declared.list.ListRefusal.TheVariants.{AnswerCount, TankCount}
+use Rattle.desk.specs.Desk.{shift_code, shift_on}
+use Rattle.desk.specs.Results.{list_result, list_leaves, shift_result, shift_leaves, refusal_number, Left}
 
--- what `desk_list` says, of copied rows or of lent ones
-abbrev pub ListRight : Answers → Tables → List ℕ → Tables → List ℕ → Tanks → Type 0
-ListRight r t' output' t output ks = list_result r t' output' ≡ list_leaves call_on t output ks
+-- ---- a loop over tanks that writes an answer a turn
 
--- copies of the lent rows are the lent rows
-pub lent_right : {b : BoxRecord} {heaps shared log_values escrow_values output heaps' shared' log_values' escrow_values' output' : List ℕ} {r : Answers} {l : List LogRow} {e : List EscrowRow} (ks : Tanks) (lt : LogTable) (et : EscrowTable)
-    → lt.rows ≡ l → et.rows ≡ e → ListRight r (lent_tables b lt.rows et.rows heaps' shared' log_values' escrow_values') output' (lent_tables b lt.rows et.rows heaps shared log_values escrow_values) output ks
-    → ListRight r (lent_tables b l e heaps' shared' log_values' escrow_values') output' (lent_tables b l e heaps shared log_values escrow_values) output ks
-lent_right ks lt et el ee right = rw (← el, ← ee) right
-
--- the three parts of what is left
-parts : {r : Answers} {t' t : Tables} {output' output : List ℕ} {ks : Tanks} {l : List Tank} → ks.rows ≡ l → ListRight r t' output' t output ks
-    → (r.rows ≡ map (desk_on call_on t (length output)) l) × ((t' ≡ t) × (output' ≡ output))
-parts {t = t} {output = output} e right = (
-  ap (λ (z : Left (List TankAnswer)). z.answer) right ∙ ap (map (desk_on call_on t (length output))) e,
-  (ap (λ (z : Left (List TankAnswer)). z.tables) right, ap (λ (z : Left (List TankAnswer)). z.output) right),
-)
-
-front : {A B : Type 0} (f : A → B) (xs ys : List A) → take (length xs) (map f (xs ++ ys)) ≡ map f xs
-front f [] ys = refl
-front f (x ∷ xs) ys = rw (front f xs ys)
-
--- ---- one tank
-
-pub first_right : (k : Tank) (ks : Tanks) (r : Answers) (a : TankAnswer) (t' t : Tables) (output' output : List ℕ) → ks.rows ≡ k ∷ drop 1 blank_tanks
-    → a ≡ get_or r.rows 0 (record { code = 0; action = 0; refusal = 0 }) → ListRight r t' output' t output ks → desk_result a t' output' ≡ desk_leaves call_on t output k
-first_right k ks r a t' t output' output eks ea right = let p = parts eks right in rw (ea, p.0, p.1.0, p.1.1)
+pub turned : {A B : Type 0} (f : A → B) (ks : List A) (rows acc : List B) (i : ℕ) (r : B) (d : A)
+    → i < length ks → length rows ≡ length ks → acc ≡ map f (take i ks) ++ drop i rows → r ≡ f (get_or ks i d)
+    → set acc i r ≡ map f (take (i + 1) ks) ++ drop (i + 1) rows
+turned f ks rows acc i r d less as_many e er =
+    let m : length (map f (take i ks)) ≡ i = simp (length-map, length-take) (omega arith) in
+    let l : i < length rows = omega arith in
+    rw (e, er, drop_more rows i r, set_at, map_more f ks i d, append_assoc)
 
 -- ---- a list of 1 to 8
 
-abbrev pub Few : ℕ → Type 0
-Few n = (1 ≤ n) × (n ≤ 8)
-
-pub few : (n : ℕ) → is_list n ≡ true → Few n
-unfolding is_list
-few n h = (leb-true 1 n (and_left (leb 1 n) (leb n 8) h), leb-true n 8 (and_right (leb 1 n) (leb n 8) h))
-
--- and as many answers
-pub record Whole (tanks answers : ℕ) : Type 0 where
-  pub few : Few tanks
-  pub as_many : answers ≡ tanks
-
-pub is_whole : (n m : ℕ) → shift_code n m ≡ 0 → Whole n m
+-- is answered with as many answers
+pub as_many : (n m : ℕ) → shift_code n m ≡ 0 → m ≡ n
 unfolding shift_code
-is_whole n m z =
-    by_cases (eqb m n)
-    (λ e. by_cases (is_list n) (λ h. record { few = few n h; as_many = eqb-true m n e }) (λ h. absurd (eqb-false 24 0 refl (rw (e, h) at z))))
-    (λ e. absurd (eqb-false 15 0 refl (rw e at z)))
+as_many n m z = grind (arith, nat_tests)
 
-pub shift_right : (tanks : List Tank) (answers answers' : List TankAnswer) (ks : Tanks) (r : Answers) (t' t : Tables) (output' output : List ℕ) → ks.rows ≡ padded tanks
-    → shift_code (length tanks) (length answers) ≡ 0 → answers' ≡ take (length answers) r.rows → ListRight r t' output' t output ks
+pub shift_right : (tanks : List Tank) (answers answers' : List TankAnswer) (t' t : Tables) (output' output : List ℕ)
+    → shift_code (length tanks) (length answers) ≡ 0 → list_result answers' t' output' ≡ list_leaves call_on t output tanks
     → shift_result 0 answers' t' output' ≡ shift_leaves call_on t output tanks answers
-unfolding shift_on padded
-shift_right tanks answers answers' ks r t' t output' output eks whole ea right =
-    let p = parts eks right in
-    rw (whole, ea, p.0, (is_whole (length tanks) (length answers) whole).as_many, front (desk_on call_on t (length output)) tanks (drop (length tanks) blank_tanks), p.1.0, p.1.1)
+unfolding shift_on
+shift_right tanks answers answers' t' t output' output whole right =
+    rw whole (ap (λ (x : Left (List TankAnswer)). shift_result 0 x.answer x.tables x.output) right)
 
-pub shift_refused : (code : ℕ) (tanks : List Tank) (answers : List TankAnswer) (t : Tables) (output : List ℕ) → code ≡ shift_code (length tanks) (length answers) → eqb code 0 ≡ false
+-- a refusal's number is not 0
+refuses : (r : ListRefusal) → eqb (refusal_number r) 0 ≡ false
+refuses AnswerCount = refl
+refuses TankCount = refl
+
+pub shift_refused : (r : ListRefusal) (code : ℕ) (tanks : List Tank) (answers : List TankAnswer) (t : Tables) (output : List ℕ)
+    → code ≡ refusal_number r → refusal_number r ≡ shift_code (length tanks) (length answers)
     → shift_result code answers t output ≡ shift_leaves call_on t output tanks answers
 unfolding shift_on
-shift_refused code tanks answers t output e refused = rw (← e, refused)
+shift_refused r code tanks answers t output c e = rw (← e, refuses r, c)

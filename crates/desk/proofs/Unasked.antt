@@ -2,44 +2,23 @@
 -- about any tank, what it answers does not matter: so in both cases the desk answers as if every check got 15. Of the box the proof
 -- uses demand 1. Assumes nothing.
 use Prim.Native.Nat.{ℕ}
-use mathlib.Core.Path.{◌≡◌, refl, sym, ◌∙◌, ap}
+use mathlib.Core.Path.{◌≡◌, refl, ap}
 use mathlib.Core.Bool.{true, false, not, ◌&&◌}
 use mathlib.Core.List.{List, [], ◌∷◌, map}
-use lib.IntN.{ℤ}
-use native.Mathlib.Omega.{arith}
 use lib.Dec.{eqb}
 use borrow.Author.Tests.{not-true}
 use Rattle.lists.specs.Lists.{any}
 use Rattle.lists.proofs.Bools.{by_cases, and_other, or_false_left, or_false_right, not_is}
 use Rattle.ideal.specs.Tables.{Tables}
 use Rattle.ideal.specs.Soundness.{sizes_right, sound}
-use Rattle.ideal.specs.Refusals.{conditions_by, here, number_at}
+use Rattle.ideal.specs.Refusals.{conditions_by, here}
 use Rattle.ideal.specs.Box.{call_on}
 use Rattle.ideal.proofs.Demanded.{demands}
 use Rattle.desk.specs.declared.Tank.{Tank}
 use Rattle.desk.specs.declared.Claim.{Claim}
-use Rattle.desk.specs.declared.Checked.{Checked}
-use Rattle.desk.specs.declared.Correction.{Correction}
-use Rattle.desk.specs.declared.Correction.TheVariants as correction
-use Rattle.desk.specs.Decision.{in_range, judged, desk_by, correction_of}
+use Rattle.desk.specs.Decision.{Checked, in_range, judged, desk_by, correction_of}
 use Rattle.desk.specs.Desk.{check_element, checked_on, desk_on}
 use Rattle.desk.specs.Results.{refused_all, needs_box}
-
--- ---- a tank's answer depends on what the checks answer
-
-judged_same : (check check' : Claim → Checked) → ((g : Claim) → check g ≡ check' g) → (reading setpoint : ℤ) (c : Correction)
-    → judged check reading setpoint c ≡ judged check' reading setpoint c
-unfolding judged
-judged_same check check' same reading setpoint correction.NotGiven = refl
-judged_same check check' same reading setpoint (correction.Given g) = rw (same g)
-
-desk_same : (check check' : Claim → Checked) → ((g : Claim) → check g ≡ check' g) → (k : Tank) → desk_by check k ≡ desk_by check' k
-unfolding desk_by
-desk_same check check' same k = rw (judged_same check check' same k.reading k.setpoint (correction_of k))
-
-list_same : (check check' : Claim → Checked) → ((g : Claim) → check g ≡ check' g) → (ks : List Tank) → map (desk_by check) ks ≡ map (desk_by check') ks
-list_same check check' same [] = refl
-list_same check check' same (k ∷ ks) = rw (desk_same check check' same k, list_same check check' same ks)
 
 -- ---- what the box answers
 
@@ -48,19 +27,13 @@ module _ (t : Tables) (n : ℕ) (unready : sizes_right t n && sound t ≡ false)
   unfolding conditions_by check_element
   refused g = (demands.one.numbers t (check_element g n) 15).1 (here (not_is (sizes_right t n && sound t) unready))
 
-  no_number : (g : Claim) → (call_on t (check_element g n)).answer.number ≡ 0
-  unfolding number_at
-  no_number g =
-      (demands.one.alters_nothing t (check_element g n) (λ z. absurd (let q : 15 ≡ 0 = sym (refused g) ∙ z in omega arith))).number
-      ∙ ap (number_at (check_element g n).bytes) (refused g)
-
   checks_refused : (g : Claim) → refused_all g ≡ checked_on call_on t n g
   unfolding checked_on refused_all
-  checks_refused g = rw (refused g, no_number g)
+  checks_refused g = rw (refused g)
 
   pub unready_list : (ks : List Tank) → map (desk_by refused_all) ks ≡ map (desk_on call_on t n) ks
   unfolding desk_on
-  unready_list ks = list_same refused_all (checked_on call_on t n) checks_refused ks
+  unready_list ks = ap (λ (check : Claim → Checked). map (desk_by check) ks) (λ i g. checks_refused g i)
 
 -- ---- where the box need not be asked, what it answers does not matter
 

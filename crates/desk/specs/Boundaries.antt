@@ -1,9 +1,8 @@
 -- Boundaries, computed: what the desk answers to a tank, where this is the box's answer to its check.
-use Rattle.std.specs.Prelude.{ℕ, ◌≡◌, List, [], ◌∷◌, map, ℤ, pos, neg_ℤ}
+use Rattle.std.specs.Prelude.{ℕ, ◌≡◌, List, [], ◌∷◌, map, ℤ, pos, neg_ℤ, Ok, Err}
 use Rattle.desk.specs.declared.Tank.{Tank}
-use Rattle.desk.specs.declared.Checked.{Checked}
 use Rattle.desk.specs.declared.TankAnswer.{TankAnswer}
-use Rattle.desk.specs.Decision.{told, desk_by}
+use Rattle.desk.specs.Decision.{Checked, told, desk_by}
 
 infix 80 ◌gives◌
 -- a tank, what the box answers, and the answer in its numbers
@@ -27,13 +26,13 @@ with = given_by 1
 
 -- the box's check says yes; no; refuses with 15
 unfoldable pub yes : Checked
-yes = record { code = 0; number = 1 }
+yes = Ok 1
 
 unfoldable pub no : Checked
-no = record { code = 0; number = 0 }
+no = Ok 0
 
 unfoldable pub unsound : Checked
-unsound = record { code = 15; number = 0 }
+unsound = Err 15
 
 unfoldable pub ◌gives◌ : Tank → TankAnswer → Checked → Case
 (k gives a) c = record { tank = k; checked = c; answer = a }

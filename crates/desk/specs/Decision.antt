@@ -1,11 +1,8 @@
 -- The decision over the integers (document 02, P6). Temperatures are in hundredths of a degree Celsius.
-use Rattle.std.specs.Prelude.{ℕ, ◌+◌, ◌*◌, Bool, ◌&&◌, cond, eqb, ltb, ℤ, pos, neg_ℤ, ◌+ℤ◌, ◌-ℤ◌}
+use Rattle.std.specs.Prelude.{ℕ, ◌+◌, ◌*◌, Bool, false, ◌&&◌, cond, eqb, ltb, ℤ, pos, neg_ℤ, ◌+ℤ◌, ◌-ℤ◌, Option, Some, None, Result, Ok, Err}
 use Rattle.std.specs.Int.Signed.{lt_z, le_z}
 use Rattle.desk.specs.declared.Tank.{Tank}
 use Rattle.desk.specs.declared.Claim.{Claim}
-use Rattle.desk.specs.declared.Correction.{Correction}
-use Rattle.desk.specs.declared.Correction.TheVariants as correction
-use Rattle.desk.specs.declared.Checked.{Checked}
 use Rattle.desk.specs.declared.Decision.{Decision}
 use Rattle.desk.specs.declared.Decision.TheVariants.{Hold, Cool, Warm, OutOfRange, NotLogged, CorrectionOutOfRange}
 use Rattle.desk.specs.declared.TankAnswer.{TankAnswer}
@@ -48,27 +45,37 @@ answer_of CorrectionOutOfRange = told 26 0 0
 unfoldable pub decided : (difference : ℤ) → TankAnswer
 decided d = cond (lt_z (pos 50) d) (answer_of Cool) (cond (lt_z d (neg_ℤ (pos 50))) (answer_of Warm) (answer_of Hold))
 
--- what the box answers to a check: yes is code 0 with number 1
+-- what the box answers to a check: the number of one that it accepts, or the number of its refusal
+abbrev pub Checked : Type 0
+Checked = Result ℕ ℕ
+
+-- yes is an accepted check's 1
 unfoldable pub says_yes : Checked → Bool
-says_yes c = eqb c.code 0 && eqb c.number 1
+says_yes (Ok n) = eqb n 1
+says_yes (Err r) = false
+
+-- shown with 25: the box's own refusal number, or 0 where the check said no
+unfoldable pub refusal_of : Checked → ℕ
+refusal_of (Ok n) = 0
+refusal_of (Err r) = r
 
 -- with a correction that was checked
 unfoldable pub corrected : (reading setpoint correction : ℤ) → TankAnswer
 corrected reading setpoint x = cond (correction_in_range x) (decided (reading +ℤ x -ℤ setpoint)) (answer_of CorrectionOutOfRange)
 
 -- with no correction zero is used; a correction counts only if the box's check says yes
-unfoldable pub judged : (Claim → Checked) → (reading setpoint : ℤ) → Correction → TankAnswer
-judged check reading setpoint correction.NotGiven = decided (reading +ℤ pos 0 -ℤ setpoint)
-judged check reading setpoint (correction.Given g) =
-    cond (says_yes (check g)) (corrected reading setpoint (signed g.low g.high)) (answer_of (NotLogged (check g).code))
+unfoldable pub judged : (Claim → Checked) → (reading setpoint : ℤ) → Option Claim → TankAnswer
+judged check reading setpoint None = decided (reading +ℤ pos 0 -ℤ setpoint)
+judged check reading setpoint (Some g) =
+    cond (says_yes (check g)) (corrected reading setpoint (signed g.low g.high)) (answer_of (NotLogged (refusal_of (check g))))
 
 -- what the row that a host lends claims of its correction, if one is given
 abbrev pub claim_of : Tank → Claim
 claim_of k = record { probe = k.probe; tag = k.tag; low = k.low; high = k.high }
 
 -- none where `given` is 0
-unfoldable pub correction_of : Tank → Correction
-correction_of k = cond (eqb k.given 0) correction.NotGiven (correction.Given (claim_of k))
+unfoldable pub correction_of : Tank → Option Claim
+correction_of k = cond (eqb k.given 0) None (Some (claim_of k))
 
 -- a tank, where this is what the box answers to checks
 unfoldable pub desk_by : (Claim → Checked) → Tank → TankAnswer

@@ -1,14 +1,13 @@
 -- The desk over a box: what it asks, and a tank's or a list's answers.
-use Rattle.std.specs.Prelude.{ℕ, Bool, ◌&&◌, cond, List, [], ◌∷◌, map, length, eqb, leb}
+use Rattle.std.specs.Prelude.{ℕ, Bool, ◌&&◌, cond, List, [], ◌∷◌, map, length, eqb, leb, Ok, Err}
 use Rattle.record.specs.Call.{Call, check}
 use Rattle.record.specs.Write.{write}
 use Rattle.ideal.specs.Tables.{Tables}
 use Rattle.ideal.specs.Box.{Element, given, Result}
 use Rattle.desk.specs.declared.Tank.{Tank}
 use Rattle.desk.specs.declared.Claim.{Claim}
-use Rattle.desk.specs.declared.Checked.{Checked}
 use Rattle.desk.specs.declared.TankAnswer.{TankAnswer}
-use Rattle.desk.specs.Decision.{desk_by}
+use Rattle.desk.specs.Decision.{Checked, desk_by}
 
 -- whether that probe logged those two bytes and got that tag
 unfoldable pub check_of : Claim → Call
@@ -36,7 +35,7 @@ module _ (box : Tables → Element → Result) (t : Tables) (output_size : ℕ) 
   unfoldable pub checked_on : Claim → Checked
   checked_on g =
       let a = (box t (check_element g output_size)).answer in
-      record { code = a.code; number = a.number }
+      cond (eqb a.code 0) (Ok a.number) (Err a.code)
 
   -- one tank
   unfoldable pub desk_on : Tank → TankAnswer

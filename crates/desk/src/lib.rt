@@ -5,20 +5,17 @@
 mod asking;
 mod correcting;
 mod deciding;
-mod lent;
 mod list;
-mod tank_rows;
 
 ghost use Rattle.std.specs.Prelude.{◌≡◌};
 ghost use Rattle.ideal.specs.Box.{call_on};
 ghost use Rattle.ideal.specs.Tables.{lent_tables};
 ghost use Rattle.desk.specs.Results.{desk_result, desk_leaves, shift_result, shift_leaves};
 
+use calls::Buffers;
 use fnv::Tag;
 use ideal::{BoxRecord, EscrowRow, LogRow};
-use lent::lent_list;
-use list::{first_of, list_of, shift_code};
-use tank_rows::{copy_tanks, store_answers};
+use list::{code_of, shift};
 
 // A tank, as a host lends it. Temperatures are in hundredths of a degree Celsius. Where given is 0 there is no correction,
 // and probe, tag, low and high are not looked at; low and high are the correction's two bytes.
@@ -37,7 +34,7 @@ pub struct Tank {
 // A tank's answer. code is 0, 24, 25 or 26; action is 1 hold, 2 cool, 3 warm, and 0 with a refusal; refusal is the box's own
 // number with 25, and else 0.
 #[repr(C)]
-#[derive(Clone, Copy)]
+#[derive(Clone, Copy, Default)]
 pub struct TankAnswer {
     pub code: u8,
     pub action: u8,
@@ -53,20 +50,10 @@ pub struct Claim {
     pub high: u8,
 }
 
-#[derive(Clone, Copy)]
-pub enum Correction {
-    NotGiven,
-    Given(Claim),
-}
+// What the box answers to a check: a number, or the number with which it refuses.
+pub type Checked = Result<u64, u8>;
 
-// What the box answers to a check.
-#[derive(Clone, Copy)]
-pub struct Checked {
-    pub code: u8,
-    pub number: u64,
-}
-
-#[derive(Clone, Copy)]
+#[derive(Clone, Copy, PartialEq, Eq)]
 pub enum Decision {
     Hold,
     Cool,
@@ -77,17 +64,6 @@ pub enum Decision {
     NotLogged(u8),
     // The correction is out of range.
     CorrectionOutOfRange,
-}
-
-// A list by value. The rows behind its tanks are blank.
-#[derive(Clone, Copy)]
-pub struct Tanks {
-    pub rows: [Tank; 8],
-}
-
-#[derive(Clone, Copy)]
-pub struct Answers {
-    pub rows: [TankAnswer; 8],
 }
 
 // One tank.
@@ -106,9 +82,11 @@ pub fn caif_desk(
         ≡ desk_leaves call_on (lent_tables held log.old escrow.old heaps.old shared.old log_values.old escrow_values.old)
         output.old tank }
 {
-    let list = list_of(tank);
-    let answers = lent_list(
-        list,
+    // A list of one is answered, with code 0.
+    let mut answers = [TankAnswer::default()];
+    caif_shift(
+        &[tank],
+        &mut answers,
         held,
         log,
         escrow,
@@ -118,7 +96,7 @@ pub fn caif_desk(
         escrow_values,
         output,
     );
-    first_of(answers)
+    answers[0]
 }
 
 // A list of tanks, with as many answers: 0, or the number with which it is refused whole.
@@ -138,22 +116,12 @@ pub fn caif_shift(
         ≡ shift_leaves call_on (lent_tables held log.old escrow.old heaps.old shared.old log_values.old escrow_values.old)
         output.old tanks.now answers.old }
 {
-    let code = shift_code(tanks.len(), answers.len());
-    if code != 0 {
-        return code;
-    }
-    let list = copy_tanks(tanks);
-    let found = lent_list(
-        list,
-        held,
-        log,
-        escrow,
+    let mut lent = Buffers {
         heaps,
         shared,
         log_values,
         escrow_values,
         output,
-    );
-    store_answers(answers, found);
-    0
+    };
+    code_of(shift(tanks, answers, held, log, escrow, &mut lent))
 }

@@ -1,211 +1,156 @@
-// Lists of tanks by value.
-ghost use Rattle.std.specs.Prelude.{◌≡◌, not, ◌∷◌, map, length, drop, get_or};
+// Lists of tanks, with as many answers.
+ghost use Rattle.std.specs.Prelude.{◌≡◌, not, map, length};
 ghost use Rattle.lists.specs.Lists.{any};
 ghost use Rattle.ideal.specs.Box.{call_on};
-ghost use Rattle.ideal.specs.Tables.{lent_tables};
-ghost use Rattle.ideal.specs.Layouts.{Sound};
-ghost use Rattle.state.specs.Parts.{RestBlank};
+ghost use Rattle.calls.specs.Buffers.{tables_in, SoundIn, SameBuffers};
 ghost use Rattle.desk.specs.Decision.{desk_by};
 ghost use Rattle.desk.specs.Desk.{is_list, shift_code};
-ghost use Rattle.desk.specs.Results.{desk_result, desk_leaves, list_result, list_leaves, blank_tanks, no_answer, no_answers, needs_box, refused_all};
+ghost use Rattle.desk.specs.Results.{desk_result, desk_leaves, list_result, list_leaves, needs_box, refused_all, shift_result, shift_leaves, code_in};
 
 use crate::asking::{ask_for, needs_box};
-use crate::deciding::{answer_of, desk_with};
-use crate::tank_rows::{blank_tanks, with_tank};
-use crate::{Answers, Checked, Tank, TankAnswer, Tanks};
-use calls::is_ready;
-use ideal::BoxRecord;
-use state::{EscrowTable, LogTable};
+use crate::deciding::desk_with;
+use crate::{Tank, TankAnswer};
+use calls::{Buffers, is_ready};
+use ideal::{BoxRecord, EscrowRow, LogRow};
+use rows::{escrow_unfit, log_unfit};
+use state::Refusal;
 
-// Whether a list has 1 to 8 tanks.
+// Why a list is refused whole, by its number.
+#[derive(Clone, Copy, PartialEq, Eq)]
+pub enum ListRefusal {
+    // Not as many answers as tanks are lent: a lent buffer isn't of its size.
+    AnswerCount = 15,
+    // There are not 1 to 8 tanks.
+    TankCount = 24,
+}
+
+// The code that a host gets for a list.
+pub fn code_of(outcome: Result<(), ListRefusal>) -> u8
+    ensures { result ≡ code_in outcome }
+{
+    match outcome {
+        Ok(()) => 0,
+        Err(refusal) => refusal as u8,
+    }
+}
+
+#[tactic(auto, unfolding(crate::specs::Desk::is_list))]
 fn is_list(tanks: usize) -> bool
     ensures { result ≡ is_list tanks }
 {
-    if tanks < 1 {
-        return false;
-    }
-    tanks <= 8
+    (1..=8).contains(&tanks)
 }
 
-// The code of a whole list, from the counts of its tanks and of the lent answers.
-pub fn shift_code(tanks: usize, answers: usize) -> u8
-    ensures { result ≡ shift_code tanks answers }
+// Whether a list is answered, by the counts of its tanks and of the lent answers.
+#[tactic(auto, unfolding(crate::specs::Desk::shift_code))]
+fn admit(tanks: usize, answers: usize) -> Result<(), ListRefusal>
+    ensures { code_in result ≡ shift_code tanks answers }
 {
     if answers != tanks {
-        return 15;
+        return Err(ListRefusal::AnswerCount);
     }
     if !is_list(tanks) {
-        return 24;
+        return Err(ListRefusal::TankCount);
     }
-    0
+    Ok(())
 }
 
-// A list of one.
-pub fn list_of(tank: Tank) -> Tanks
-    ensures { result.rows ≡ tank ∷ drop 1 blank_tanks }
+// Whether the box need not be asked about any tank.
+fn none_asks(tanks: &[Tank]) -> bool
+    ensures { result ≡ not (any needs_box tanks.now) }
 {
-    with_tank(blank_tanks(), 0, tank)
+    !tanks.iter().any(|tank| needs_box(*tank))
 }
 
-pub fn first_of(answers: Answers) -> TankAnswer
-    ensures { result ≡ get_or answers.rows 0 no_answer }
+// Every check is refused with 15: so it is where a lent buffer isn't of its size or the box isn't sound, and it does not matter
+// where no tank needs the box.
+fn refused_list(tanks: &[Tank], answers: &mut [TankAnswer])
+    requires { length answers.old ≡ length tanks.now }
+    ensures { answers.new ≡ map (desk_by refused_all) tanks.now }
 {
-    answers.rows[0]
+    let refused = Err(Refusal::Unsound.number());
+    // By index, here and in list_sound: a proof knows nothing of what is written through a zip with iter_mut.
+    for (i, tank) in tanks.iter().enumerate() {
+        answers[i] = TankAnswer::from(desk_with(*tank, refused));
+    }
 }
 
-fn no_answers() -> Answers
-    ensures { result.rows ≡ no_answers }
-{
-    let none = TankAnswer {
-        code: 0,
-        action: 0,
-        refusal: 0,
-    };
-    Answers { rows: [none; 8] }
-}
-
-// One tank, by the tables of a sound box.
+// One tank, by a sound box.
 fn desk_of(
     tank: Tank,
     held: BoxRecord,
-    log: LogTable,
-    escrow: EscrowTable,
-    heaps: &mut [u8],
-    shared: &mut [u8],
-    log_values: &mut [u8],
-    escrow_values: &mut [u8],
-    output: &mut [u8],
+    log: &[LogRow],
+    escrow: &[EscrowRow],
+    lent: &mut Buffers,
 ) -> TankAnswer
-    requires { Sound (lent_tables held log.rows escrow.rows heaps.old shared.old log_values.old escrow_values.old) (length output.old) }
-    ensures { desk_result result (lent_tables held log.rows escrow.rows heaps.new shared.new log_values.new escrow_values.new) output.new
-        ≡ desk_leaves call_on (lent_tables held log.rows escrow.rows heaps.old shared.old log_values.old escrow_values.old)
-        output.old tank }
+    requires { SoundIn held log.now escrow.now lent.old }
+    ensures same_buffers { SameBuffers lent.old lent.new }
+    ensures leaves { desk_result result (tables_in held log.now escrow.now lent.new) lent.new.output.now
+        ≡ desk_leaves call_on (tables_in held log.now escrow.now lent.old) lent.old.output.now tank }
 {
-    let checked = ask_for(
-        tank,
-        held,
-        log,
-        escrow,
-        heaps,
-        shared,
-        log_values,
-        escrow_values,
-        output,
-    );
-    answer_of(desk_with(tank, checked))
+    let checked = ask_for(tank, held, log, escrow, lent);
+    TankAnswer::from(desk_with(tank, checked))
 }
 
-// Every row of a list, by the tables of a sound box.
+// Each tank, by a sound box.
 fn list_sound(
-    list: Tanks,
+    tanks: &[Tank],
+    answers: &mut [TankAnswer],
     held: BoxRecord,
-    log: LogTable,
-    escrow: EscrowTable,
-    heaps: &mut [u8],
-    shared: &mut [u8],
-    log_values: &mut [u8],
-    escrow_values: &mut [u8],
-    output: &mut [u8],
-) -> Answers
-    requires { Sound (lent_tables held log.rows escrow.rows heaps.old shared.old log_values.old escrow_values.old) (length output.old) }
-    ensures { list_result result (lent_tables held log.rows escrow.rows heaps.new shared.new log_values.new escrow_values.new) output.new
-        ≡ list_leaves call_on (lent_tables held log.rows escrow.rows heaps.old shared.old log_values.old escrow_values.old)
-        output.old list }
+    log: &[LogRow],
+    escrow: &[EscrowRow],
+    lent: &mut Buffers,
+)
+    requires as_many { length answers.old ≡ length tanks.now }
+    requires sound { SoundIn held log.now escrow.now lent.old }
+    ensures same_buffers { SameBuffers lent.old lent.new }
+    ensures leaves { list_result answers.new (tables_in held log.now escrow.now lent.new) lent.new.output.now
+        ≡ list_leaves call_on (tables_in held log.now escrow.now lent.old) lent.old.output.now tanks.now }
 {
-    let mut answers = no_answers();
-    let mut i = 0;
-    while i < 8 {
-        let tank = list.rows[i];
-        let answer = desk_of(
-            tank,
-            held,
-            log,
-            escrow,
-            heaps,
-            shared,
-            log_values,
-            escrow_values,
-            output,
-        );
-        answers.rows[i] = answer;
-        i = i + 1;
+    for (i, tank) in tanks.iter().enumerate() {
+        answers[i] = desk_of(*tank, held, log, escrow, lent);
     }
-    answers
 }
 
-// Whether the box need not be asked about any row.
-pub fn none_asks(list: Tanks) -> bool
-    ensures { result ≡ not (any needs_box list.rows) }
-{
-    let mut i = 0;
-    while i < 8 {
-        let tank = list.rows[i];
-        if needs_box(tank) {
-            return false;
-        }
-        i = i + 1;
-    }
-    true
-}
-
-// Every row of a list, with every check refused with 15: so it is where a lent buffer isn't of its size or the box isn't sound,
-// and it does not matter where no row needs the box.
-pub fn refused_list(list: Tanks) -> Answers
-    ensures { result.rows ≡ map (desk_by refused_all) list.rows }
-{
-    let refused = Checked {
-        code: 15,
-        number: 0,
-    };
-    let mut answers = no_answers();
-    let mut i = 0;
-    while i < 8 {
-        let tank = list.rows[i];
-        let answer = answer_of(desk_with(tank, refused));
-        answers.rows[i] = answer;
-        i = i + 1;
-    }
-    answers
-}
-
-// Every row of a list, by tables whose unused rows are blank. Soundness is tested once, since no check alters the box.
-pub fn desk_list(
-    list: Tanks,
+// Each tank, over lent rows and buffers of any count. Soundness is tested once, since no check alters the box.
+fn lent_list(
+    tanks: &[Tank],
+    answers: &mut [TankAnswer],
     held: BoxRecord,
-    log: LogTable,
-    escrow: EscrowTable,
-    heaps: &mut [u8],
-    shared: &mut [u8],
-    log_values: &mut [u8],
-    escrow_values: &mut [u8],
-    output: &mut [u8],
-) -> Answers
-    requires { RestBlank held log.rows escrow.rows }
-    ensures { list_result result (lent_tables held log.rows escrow.rows heaps.new shared.new log_values.new escrow_values.new) output.new
-        ≡ list_leaves call_on (lent_tables held log.rows escrow.rows heaps.old shared.old log_values.old escrow_values.old)
-        output.old list }
+    log: &[LogRow],
+    escrow: &[EscrowRow],
+    lent: &mut Buffers,
+)
+    requires { length answers.old ≡ length tanks.now }
+    ensures same_buffers { SameBuffers lent.old lent.new }
+    ensures leaves { list_result answers.new (tables_in held log.now escrow.now lent.new) lent.new.output.now
+        ≡ list_leaves call_on (tables_in held log.now escrow.now lent.old) lent.old.output.now tanks.now }
 {
-    if !is_ready(
-        held,
-        log,
-        escrow,
-        heaps,
-        shared,
-        log_values,
-        escrow_values,
-        output,
-    ) {
-        return refused_list(list);
+    if none_asks(tanks)
+        || log_unfit(log, held.log.rows as usize)
+        || escrow_unfit(escrow, held.escrow.rows as usize)
+        || !is_ready(held, log, escrow, lent)
+    {
+        refused_list(tanks, answers);
+        return;
     }
-    list_sound(
-        list,
-        held,
-        log,
-        escrow,
-        heaps,
-        shared,
-        log_values,
-        escrow_values,
-        output,
-    )
+    list_sound(tanks, answers, held, log, escrow, lent)
+}
+
+// Each tank of a list that is not refused whole.
+pub fn shift(
+    tanks: &[Tank],
+    answers: &mut [TankAnswer],
+    held: BoxRecord,
+    log: &[LogRow],
+    escrow: &[EscrowRow],
+    lent: &mut Buffers,
+) -> Result<(), ListRefusal>
+    ensures same_buffers { SameBuffers lent.old lent.new }
+    ensures leaves { shift_result (code_in result) answers.new (tables_in held log.now escrow.now lent.new) lent.new.output.now
+        ≡ shift_leaves call_on (tables_in held log.now escrow.now lent.old) lent.old.output.now tanks.now answers.old }
+{
+    admit(tanks.len(), answers.len())?;
+    lent_list(tanks, answers, held, log, escrow, lent);
+    Ok(())
 }

@@ -2,8 +2,9 @@
 
 #![tactic(auto)]
 
-ghost use Rattle.std.specs.Prelude.{◌≡◌, List, ℕ, ◌^◌, ◌≤◌, ◌<◌, take};
-ghost use Rattle.ideal.specs.Step.{handle_of, next, free_handle};
+ghost use Rattle.std.specs.Prelude.{◌≡◌, List, ℕ, ◌^◌, ◌<◌};
+ghost use Rattle.ideal.specs.State.{any};
+ghost use Rattle.ideal.specs.Step.{has_handle, handle_of, next, free_handle};
 ghost use Rattle.ideal.specs.Tables.{escrow_table, entries_of};
 
 use ideal::EscrowRow;
@@ -23,6 +24,7 @@ fn next_draw(draw: Draw) -> Draw
     Draw((low + high % 16777216 * 16777216 + 11) % 281474976710656)
 }
 
+#[tactic(auto, unfolding(ideal::specs::Step::handle_of))]
 fn handle_of(size: u16, draw: Draw) -> Handle
     requires { draw.0 < 2 ^ 48 }
     ensures { result ≡ handle_of size draw.0 }
@@ -30,38 +32,26 @@ fn handle_of(size: u16, draw: Draw) -> Handle
     Handle(size as u64 * 281474976710656 + draw.0)
 }
 
-// The first handle from the draw on that none of the first n rows has; at most 64 candidates are passed over. In one
-// function, because the rows are copied as a function begins that has a loop over them.
-fn search_handle(rows: [EscrowRow; 64], n: usize, size: u16, draw: Draw) -> Handle
-    requires { (n ≤ 64) × (draw.0 < 2 ^ 48) }
-    ensures { (values : List ℕ) → result ≡ free_handle size draw (entries_of escrow_table values (take n rows)) }
+// Whether a row has this handle.
+pub fn is_used(rows: &[EscrowRow], handle: Handle) -> bool
+    ensures { (values : List ℕ) → result ≡ any (has_handle handle) (entries_of escrow_table values rows.now) }
 {
-    let mut d = draw;
-    let mut k: usize = 0;
-    'draws: while k < 64 {
-        let h = handle_of(size, d);
-        let mut i: usize = 0;
-        while i < n {
-            let row = rows[i];
-            if row.handle.0 == h.0 {
-                d = next_draw(d);
-                k += 1;
-                continue 'draws;
-            }
-            i += 1;
-        }
-        return h;
-    }
-    handle_of(size, d)
+    rows.iter().any(|row| row.handle == handle)
 }
 
-// The same. Where there are no rows, none is copied for a loop over them.
-pub fn free_handle(rows: [EscrowRow; 64], n: usize, size: u16, draw: Draw) -> Handle
-    requires { (n ≤ 64) × (draw.0 < 2 ^ 48) }
-    ensures { (values : List ℕ) → result ≡ free_handle size draw (entries_of escrow_table values (take n rows)) }
+// The first handle from the draw on that no row has; at most 64 candidates are passed over.
+#[tactic(auto, using(crate::proofs::Free::free_here, crate::proofs::Free::free_later, crate::proofs::Free::free_last, crate::proofs::Free::next_small), unfolding(ideal::specs::Step::free_handle))]
+pub fn free_handle(rows: &[EscrowRow], size: u16, draw: Draw) -> Handle
+    requires { draw.0 < 2 ^ 48 }
+    ensures { (values : List ℕ) → result ≡ free_handle size draw (entries_of escrow_table values rows.now) }
 {
-    if n == 0 {
-        return handle_of(size, draw);
+    let mut d = draw;
+    for _ in 0..64u8 {
+        let handle = handle_of(size, d);
+        if !is_used(rows, handle) {
+            return handle;
+        }
+        d = next_draw(d);
     }
-    search_handle(rows, n, size, draw)
+    handle_of(size, d)
 }

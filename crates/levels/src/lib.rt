@@ -3,129 +3,119 @@
 
 #![tactic(auto)]
 
-ghost use Rattle.std.specs.Prelude.{◌≡◌, ◌+◌, ◌≤◌, length, take};
+ghost use Rattle.std.specs.Prelude.{◌≡◌, ◌+◌, ◌≤◌, length};
 ghost use Rattle.ideal.specs.State.{any};
 ghost use Rattle.ideal.specs.Tables.{log_table, entry_of, entries_of};
 ghost use Rattle.ideal.specs.Fit.{RowsFit};
 ghost use Rattle.ideal.specs.LevelOne.{is_other};
 ghost use Rattle.state.specs.Parts.{TableFits};
+ghost use Rattle.state.specs.Refusals.{number_in};
 ghost use Rattle.levels.specs.Narrow.{place_barred, attest_barred, barred_on, own_refusal};
 
 use buffers::same;
-use ideal::{BoxRecord, HEAP, LogRow, Profile};
+use ideal::{BoxRecord, LogRow, Profile};
 use record::Call;
-use state::LogTable;
+use state::{Refusal, heap_part, running_place};
 
 // Whether a row is of this identity, with another value.
-fn row_is_other(row: LogRow, values: &[u8], identity: u64, value: &[u8]) -> bool
-    requires { row.first + row.length ≤ length values.now }
-    ensures { result ≡ is_other identity value.now (entry_of log_table values.now row) }
+#[tactic(auto, unfolding(ideal::specs::LevelOne::is_other))]
+fn row_is_other(row: &LogRow, values: &[u8], identity: u64, value: &[u8]) -> bool
+    requires { row.now.first + row.now.length ≤ length values.now }
+    ensures { result ≡ is_other identity value.now (entry_of log_table values.now row.now) }
 {
-    if row.identity != identity {
-        return false;
-    }
     let start = row.first as usize;
     let end = start + row.length as usize;
-    !same(&values[start..end], value)
+    row.identity == identity && !same(&values[start..end], value)
 }
 
-// Whether one of the first n rows is.
-fn other_in_log(rows: [LogRow; 64], n: usize, values: &[u8], identity: u64, value: &[u8]) -> bool
-    requires { (n ≤ 64) × RowsFit log_table rows n (length values.now) }
-    ensures { result ≡ any (is_other identity value.now) (entries_of log_table values.now (take n rows)) }
+// Whether one of the rows is.
+#[tactic(auto, unfolding(ideal::specs::Fit::RowsFit, lists::specs::Lists::any, ideal::specs::Tables::entries_of))]
+fn other_in_log(rows: &[LogRow], values: &[u8], identity: u64, value: &[u8]) -> bool
+    requires { RowsFit log_table rows.now (length rows.now) (length values.now) }
+    ensures { result ≡ any (is_other identity value.now) (entries_of log_table values.now rows.now) }
 {
-    let mut i: usize = 0;
-    while i < n {
-        let row = rows[i];
+    for row in rows {
         if row_is_other(row, values, identity, value) {
             return true;
         }
-        i += 1;
     }
     false
 }
 
-// 23 for an attest where a program runs, the part is within its heap, and it has a row with another value; else 0.
+// Refuses an attest where a program runs, the part is within its heap, and it has a row with another value.
+#[tactic(auto, using(state::proofs::Parts::used_fit), unfolding(crate::specs::Narrow::attest_barred, ideal::specs::Step::beyond))]
 fn attest_barred(
     held: BoxRecord,
-    log: LogTable,
+    log: &[LogRow],
     heaps: &[u8],
     values: &[u8],
     offset: u16,
     size: u16,
-) -> u8
-    requires { (held.running ≤ 16) × (length heaps.now ≡ 4096) × TableFits log_table held.log log.rows values.now }
-    ensures { result ≡ attest_barred held log.rows heaps.now values.now offset size }
+) -> Result<(), Refusal>
+    requires { (held.running ≤ 16) × (length log.now ≡ 64) × (length heaps.now ≡ 4096) × TableFits log_table held.log log.now values.now }
+    ensures { number_in result ≡ attest_barred held log.now heaps.now values.now offset size }
 {
-    if held.running == 16 {
-        return 0;
-    }
-    if offset as usize + size as usize > 256 {
-        return 0;
-    }
-    let place = held.running as usize;
-    let heap = HEAP * place;
-    let start = heap + offset as usize;
-    let end = start + size as usize;
+    let Ok(place) = running_place(held.running) else {
+        return Ok(());
+    };
+    let Ok((start, end)) = heap_part(place, offset, size) else {
+        return Ok(());
+    };
     let identity = held.identities[place];
-    let used = held.log;
-    let rows = log.rows;
-    if other_in_log(
-        rows,
-        used.rows as usize,
-        values,
-        identity,
-        &heaps[start..end],
-    ) {
-        return 23;
+    let rows = &log[..held.log.rows as usize];
+    if other_in_log(rows, values, identity, &heaps[start..end]) {
+        return Err(Refusal::SecondValue);
     }
-    0
+    Ok(())
 }
 
-// 22 for a place of 4 to 15, in a create and in a hand over; else 0. Beyond them is 6, and hand over's 16.
-fn place_barred(place: u8) -> u8
-    ensures { result ≡ place_barred place }
+// Refuses a place of 4 to 15, in a create and in a hand over. Beyond them is 6, and hand over's 16.
+#[tactic(auto, unfolding(crate::specs::Narrow::place_barred))]
+fn place_barred(place: u8) -> Result<(), Refusal>
+    ensures { number_in result ≡ place_barred place }
 {
-    if place < 4 {
-        return 0;
+    if (4..=15).contains(&place) {
+        return Err(Refusal::HighPlace);
     }
-    if place > 15 {
-        return 0;
-    }
-    22
+    Ok(())
 }
 
-// Level one's own refusal of a call; 0 where it has none.
-fn barred_with(held: BoxRecord, log: LogTable, heaps: &[u8], values: &[u8], called: Call) -> u8
-    requires { (held.running ≤ 16) × (length heaps.now ≡ 4096) × TableFits log_table held.log log.rows values.now }
-    ensures { result ≡ barred_on held log.rows heaps.now values.now called }
-{
-    match called {
-        Call::Create { place, identity: _ } => place_barred(place),
-        Call::HandOver { place } => place_barred(place),
-        Call::Attest { offset, length } => attest_barred(held, log, heaps, values, offset, length),
-        Call::Protect { .. } => 21,
-        Call::Retrieve { .. } => 21,
-        Call::Chain { .. } => 21,
-        Call::Release { .. } => 21,
-        _ => 0,
-    }
-}
-
-// What refuses a call in a profile before the full box's tests do; 0 where nothing does.
-pub fn own_refusal(
-    profile: Profile,
+// Level one's own refusal of a call.
+#[tactic(auto, unfolding(crate::specs::Narrow::barred_on))]
+fn barred_with(
     held: BoxRecord,
-    log: LogTable,
+    log: &[LogRow],
     heaps: &[u8],
     values: &[u8],
     called: Call,
-) -> u8
-    requires { (held.running ≤ 16) × (length heaps.now ≡ 4096) × TableFits log_table held.log log.rows values.now }
-    ensures { result ≡ own_refusal profile held log.rows heaps.now values.now called }
+) -> Result<(), Refusal>
+    requires { (held.running ≤ 16) × (length log.now ≡ 64) × (length heaps.now ≡ 4096) × TableFits log_table held.log log.now values.now }
+    ensures { number_in result ≡ barred_on held log.now heaps.now values.now called }
+{
+    match called {
+        Call::Create { place, .. } | Call::HandOver { place } => place_barred(place),
+        Call::Attest { offset, length } => attest_barred(held, log, heaps, values, offset, length),
+        Call::Protect { .. } | Call::Retrieve { .. } | Call::Chain { .. } | Call::Release { .. } =>
+            Err(Refusal::NoSuchCall),
+        _ => Ok(()),
+    }
+}
+
+// What refuses a call in a profile before the full box's tests do.
+#[tactic(auto, unfolding(crate::specs::Narrow::own_refusal))]
+pub fn own_refusal(
+    profile: Profile,
+    held: BoxRecord,
+    log: &[LogRow],
+    heaps: &[u8],
+    values: &[u8],
+    called: Call,
+) -> Result<(), Refusal>
+    requires { (held.running ≤ 16) × (length log.now ≡ 64) × (length heaps.now ≡ 4096) × TableFits log_table held.log log.now values.now }
+    ensures { number_in result ≡ own_refusal profile held log.now heaps.now values.now called }
 {
     match profile {
-        Profile::Full => 0,
+        Profile::Full => Ok(()),
         Profile::LevelOne => barred_with(held, log, heaps, values, called),
     }
 }

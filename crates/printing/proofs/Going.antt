@@ -7,21 +7,21 @@ use lib.ListN.{length, take, drop, replicate, length-append, length-take, length
 use lib.Seq.{drop-drop, take-append_seam, drop_at}
 use borrow.Author.Tests.{lt-ltb, le-ltb}
 use Rattle.ideal.specs.declared.BoxRecord.{BoxRecord}
+use Rattle.ideal.specs.declared.EscrowRow.{EscrowRow}
+use Rattle.ideal.specs.declared.LogRow.{LogRow}
 use Rattle.ideal.specs.declared.Profile.{Profile}
 use Rattle.ideal.specs.Tables.{Tables, fresh_tables, flat, lent_tables}
 use Rattle.ideal.specs.Box.{answers_from}
 use Rattle.ideal.specs.LevelOne.{box_of}
 use Rattle.ideal.specs.Layouts.{Sound}
 use Rattle.ideal.proofs.Kept.{fresh_box}
-use Rattle.state.specs.declared.LogTable.{LogTable}
-use Rattle.state.specs.declared.EscrowTable.{EscrowTable}
 use Rattle.sheet.specs.Records.{records_from}
 use Rattle.sheet.specs.Sheet.{bytes_of, header, too_long, lines_of, sheet}
 use Rattle.turns.specs.Next.{Turn, turns, Writes, GoesOn, TurnMade}
 use Rattle.turns.proofs.OneByOne.{turns_write, turns_go_on, to_the_end, front_length, front_text}
-use Rattle.printing.specs.declared.output.Failure.{Failure}
-use Rattle.printing.specs.declared.output.Printed.{Printed}
-use Rattle.printing.specs.declared.output.Printed.TheVariants.{UpTo, Failed}
+use Rattle.std.specs.Prelude.{Result, Ok, Err}
+use Rattle.printing.specs.declared.output.Progress.{Progress}
+use Rattle.printing.specs.declared.output.Unwritten.{Unwritten}
 use Rattle.printing.specs.Printing.{NextPart, PrintedPart, PrintedWhole}
 
 -- a script that was read is no longer than its buffer
@@ -40,15 +40,15 @@ pub part_of : (bytes more : List ℕ) {text : List ℕ} {printed : ℕ} → drop
 part_of bytes more e h = record { some = h; same = sym (ap (take (length bytes)) e ∙ take-append_seam bytes more) }
 
 -- the last part printed, or not
-pub last_part : {text bytes : List ℕ} {printed : ℕ} (r : Printed) → NextPart text printed bytes → PrintedPart r printed bytes
+pub last_part : {text bytes : List ℕ} {printed : ℕ} (r : Result Progress Unwritten) → NextPart text printed bytes → PrintedPart r printed bytes
     → printed + length bytes ≡ length text → PrintedWhole r text
-last_part (UpTo u) p h e = h ∙ e
-last_part (Failed f) p h e = omega (arith, p.some, h, e)
+last_part (Ok u) p h e = h ∙ e
+last_part (Err f) p h e = omega (arith, p.some, h, e)
 
 -- a part that failed
-pub failed_part : {text bytes : List ℕ} {printed : ℕ} (r : Printed) (f : Failure) → r ≡ Failed f → NextPart text printed bytes
-    → PrintedPart r printed bytes → PrintedWhole r text
-failed_part r f e p h = rw e (omega (arith, p.some, part_within p, rw e at h))
+pub failed_part : {text bytes : List ℕ} {printed : ℕ} (r : Result Progress Unwritten) (f : Unwritten) → r ≡ Err f → NextPart text printed bytes
+    → PrintedPart r printed bytes → f.from < length text
+failed_part r f e p h = omega (arith, p.some, part_within p, rw e at h)
 
 -- ---- the loop
 
@@ -60,11 +60,11 @@ pub record Going (p : Profile) (script : List ℕ) (t : Tables) (at total : ℕ)
   pub small : total ≤ 23 + 65536 * at
 
 -- a fresh box and zeros
-pub begins : (p : Profile) (script : List ℕ) (head : ℕ) (b : BoxRecord) (log : LogTable) (escrow : EscrowTable) → b ≡ fresh_tables.box
-    → log.rows ≡ fresh_tables.log_rows → escrow.rows ≡ fresh_tables.escrow_rows → length script ≤ 65536 → head ≡ length header
-    → Going p script (lent_tables b log.rows escrow.rows (replicate 4096 0) (replicate 1024 0) (replicate 4096 0) (replicate 4096 0)) 0 head
+pub begins : (p : Profile) (script : List ℕ) (head : ℕ) {b : BoxRecord} {log : List LogRow} {escrow : List EscrowRow} → b ≡ fresh_tables.box
+    → log ≡ fresh_tables.log_rows → escrow ≡ fresh_tables.escrow_rows → length script ≤ 65536 → head ≡ length header
+    → Going p script (lent_tables b log escrow (replicate 4096 0) (replicate 1024 0) (replicate 4096 0) (replicate 4096 0)) 0 head
 unfolding fresh_tables header bytes_of sheet
-begins p script head b log escrow e1 e2 e3 h e =
+begins p script head e1 e2 e3 h e =
     rw (e1, e2, e3)
     (record {
       sound = fresh_box.sound;

@@ -15,14 +15,8 @@ pub struct Progress {
 
 // That the part from this place on was handed to `write_all`, which did not write all of it. Only `print` makes one.
 #[derive(Clone, Copy)]
-pub struct Failure {
+pub struct Unwritten {
     from: usize,
-}
-
-#[derive(Clone, Copy)]
-pub enum Printed {
-    UpTo(Progress),
-    Failed(Failure),
 }
 
 pub fn nothing() -> Progress
@@ -38,16 +32,16 @@ pub fn print(
     script: &[u8],
     before: Progress,
     bytes: &[u8],
-) -> Printed
+) -> Result<Progress, Unwritten>
     requires next_part { NextPart (sheet (box_of profile) script.now) before.printed bytes.now }
     requires bytes_bound { before.printed + length bytes.now < 2 ^ 64 }
     ensures { PrintedPart result before.printed bytes.now }
 {
     let printed = before.printed;
     match output.write_all(bytes) {
-        Ok(()) => Printed::UpTo(Progress {
+        Ok(()) => Ok(Progress {
             printed: printed + bytes.len(),
         }),
-        Err(_) => Printed::Failed(Failure { from: printed }),
+        Err(_) => Err(Unwritten { from: printed }),
     }
 }

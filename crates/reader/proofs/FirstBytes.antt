@@ -55,3 +55,5 @@ module _ (total m : ℕ) (bs : List ℕ) where
   same_map l (some k) e h =
       let d : k.map ≡ m = cc in
       rw (d, eq-eqb m m refl)
+
+pub ruleset first_bytes = (empty, bit_down, no_kind_byte, opened, unknown_kind, other_map, same_map)

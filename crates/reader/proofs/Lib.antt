@@ -1,3 +1,2 @@
 mod FirstBytes
-mod LastKind
 mod Positions

@@ -9,8 +9,8 @@ use lib.ListN.{length, take, drop, length-drop}
 use lib.Dec.{ltb}
 use lib.Seq.{drop-drop}
 use borrow.Author.Tests.{lt-ltb, le-ltb}
-use Rattle.reader.specs.declared.Three as three
-use Rattle.reader.specs.declared.Three.TheVariants.{Numbers, Cut as CutThree}
+use Rattle.reader.specs.declared.Missing.{Missing}
+use Rattle.std.proofs.Common.{Result, Ok, Err}
 use Rattle.record.specs.declared.Fields.{Fields}
 use Rattle.record.specs.Layout.{Kind, stands}
 use Rattle.record.specs.Read.{Reading, cut, whole, field, contents, bytes_field, fields}
@@ -39,7 +39,6 @@ module _ (bs : List ℕ) where
 
   on_after : (next : ℕ → ℕ → ℕ → List ℕ → Reading) (k : ℕ → List ℕ → Reading) (m : ℕ × ℕ → OrCut (ℕ × ℕ × ℕ × ℕ)) (t : OrCut (ℕ × ℕ))
       → ((p : ℕ × ℕ) → k p.0 (drop p.1 bs) ≡ on_three next (m p)) → on_field k t ≡ on_three next (after t m)
-  unfolding after
   on_after next k m (reads p) h = h p
   on_after next k m (misses n) h = refl
 
@@ -56,23 +55,21 @@ module _ (bs : List ℕ) where
       ∙ on_after next (next x.0 y.0) _ (field_at bs y.1 (stands map (bit + 2)) 2) (λ z. refl)))
 
   -- by the case that the code found
-  module _ (at map bit n : ℕ) (next : ℕ → ℕ → ℕ → List ℕ → Reading) {r : three.Three} (e : three_in r ≡ three_at bs at map bit n) where
-    pub three_at_lem : {x y z end : ℕ} → r ≡ Numbers x y z end
+  module _ (at map bit n : ℕ) (next : ℕ → ℕ → ℕ → List ℕ → Reading) {r : Result (ℕ × ℕ × ℕ × ℕ) Missing} (e : three_in r ≡ three_at bs at map bit n) where
+    pub three_at_lem : {x y z end : ℕ} → r ≡ Ok (x, y, z, end)
         → field (stands map bit) n (λ x. field (stands map (bit + 1)) 8 (λ y. field (stands map (bit + 2)) 2 (next x y))) (drop at bs)
         ≡ next x y z (drop end bs)
-    unfolding three_in
     three_at_lem g = three_on at map bit n next ∙ rw (← e, g)
 
-    pub three_cut : {missing : ℕ} → r ≡ CutThree missing
+    pub three_cut : {missing : Missing} → r ≡ Err missing
         → field (stands map bit) n (λ x. field (stands map (bit + 1)) 8 (λ y. field (stands map (bit + 2)) 2 (next x y))) (drop at bs)
-        ≡ cut missing
-    unfolding three_in
+        ≡ cut missing.0
     three_cut g = three_on at map bit n next ∙ rw (← e, g)
 
   -- the six fields, up to the contents of the last
   pub fields_at : (map : ℕ) (next : Fields → List ℕ → List ℕ → Reading) {place identity offset at size number count start : ℕ}
-      {low high : three.Three} → three_in low ≡ three_at bs 2 map 1 1 → low ≡ Numbers place identity offset at
-      → three_in high ≡ three_at bs at map 4 2 → high ≡ Numbers size number count start
+      {low high : Result (ℕ × ℕ × ℕ × ℕ) Missing} → three_in low ≡ three_at bs 2 map 1 1 → low ≡ Ok (place, identity, offset, at)
+      → three_in high ≡ three_at bs at map 4 2 → high ≡ Ok (size, number, count, start)
       → fields map next (drop 2 bs)
       ≡ contents count (next (record { place = place; identity = identity; offset = offset; length = size; number = number }))
       (drop start bs)

@@ -1,10 +1,7 @@
 -- What the reader's parts find, by positions in the record.
-use Rattle.std.specs.Prelude.{ℕ, ◌+◌, ◌-◌, ◌≤◌, ◌<◌, ◌^◌, Bool, true, false, cond, List, length, take, drop, ltb}
+use Rattle.std.specs.Prelude.{ℕ, ◌+◌, ◌-◌, ◌≤◌, ◌<◌, ◌^◌, Bool, true, false, cond, Result, Ok, Err, List, length, take, drop, ltb}
 use Rattle.std.proofs.Math.Option.{Option, none, some}
-use Rattle.reader.specs.declared.Taken as taken
-use Rattle.reader.specs.declared.Taken.TheVariants.{Number, Cut}
-use Rattle.reader.specs.declared.Three as three
-use Rattle.reader.specs.declared.Three.TheVariants.{Numbers, Cut as CutThree}
+use Rattle.reader.specs.declared.Missing.{Missing}
 use Rattle.record.specs.declared.Fields.{Fields}
 use Rattle.record.specs.declared.Part.{Part}
 use Rattle.record.specs.Call.{Call, report}
@@ -17,9 +14,9 @@ pub data OrCut (A : Type 0) : Type 0 where
   misses : ℕ → OrCut A
 
 -- what each case of a field's answer stands for: its number and the position after it, or the bytes it misses
-unfoldable pub taken_in : taken.Taken → OrCut (ℕ × ℕ)
-taken_in (Number x at) = reads (x, at)
-taken_in (Cut missing) = misses missing
+abbrev pub taken_in : Result (ℕ × ℕ) Missing → OrCut (ℕ × ℕ)
+taken_in (Ok p) = reads p
+taken_in (Err missing) = misses missing.0
 
 -- a field of n bytes at a position: its number, 0 where its bit is down, and the position after it
 unfoldable pub field_at : List ℕ → ℕ → Bool → ℕ → OrCut (ℕ × ℕ)
@@ -29,17 +26,17 @@ field_at bs at true n =
     cond (ltb there n) (misses (n - there)) (reads (from_little (take n (drop at bs)), at + n))
 
 -- the number fits n bytes, and the position lies within the record
-unfoldable pub TakenWithin : List ℕ → ℕ → taken.Taken → Type 0
-TakenWithin bs n (Number x at) = (x < 256 ^ n) × (at ≤ length bs)
-TakenWithin bs n (Cut missing) = Unit {0}
+abbrev pub TakenWithin : List ℕ → ℕ → Result (ℕ × ℕ) Missing → Type 0
+TakenWithin bs n (Ok p) = (p.0 < 256 ^ n) × (p.1 ≤ length bs)
+TakenWithin bs n (Err missing) = Unit {0}
 
 -- the same of three fields
-unfoldable pub three_in : three.Three → OrCut (ℕ × ℕ × ℕ × ℕ)
-three_in (Numbers x y z at) = reads (x, y, z, at)
-three_in (CutThree missing) = misses missing
+abbrev pub three_in : Result (ℕ × ℕ × ℕ × ℕ) Missing → OrCut (ℕ × ℕ × ℕ × ℕ)
+three_in (Ok p) = reads p
+three_in (Err missing) = misses missing.0
 
 -- what follows a value, unless it is cut
-unfoldable pub after : {A B : Type 0} → OrCut A → (A → OrCut B) → OrCut B
+abbrev pub after : {A B : Type 0} → OrCut A → (A → OrCut B) → OrCut B
 after (reads a) next = next a
 after (misses n) next = misses n
 
@@ -51,9 +48,9 @@ three_at bs at map bit n =
     after (field_at bs y.1 (stands map (bit + 2)) 2) λ z. reads (x.0, y.0, z.0, z.1)
 
 -- the first and the third number fit, and the position lies within the record
-unfoldable pub ThreeWithin : List ℕ → ℕ → three.Three → Type 0
-ThreeWithin bs n (Numbers x y z at) = (x < 256 ^ n) × (z < 256 ^ 2) × (at ≤ length bs)
-ThreeWithin bs n (CutThree missing) = Unit {0}
+abbrev pub ThreeWithin : List ℕ → ℕ → Result (ℕ × ℕ × ℕ × ℕ) Missing → Type 0
+ThreeWithin bs n (Ok p) = (p.0 < 256 ^ n) × (p.2 < 256 ^ 2) × (p.3 ≤ length bs)
+ThreeWithin bs n (Err missing) = Unit {0}
 
 -- a kind's call; a report where there is no such kind
 unfoldable pub call_of : Option Kind → Fields → List ℕ → Call

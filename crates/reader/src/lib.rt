@@ -7,66 +7,67 @@ ghost use Rattle.record.specs.Call.{link_by};
 ghost use Rattle.record.specs.Layout.{kind_of};
 ghost use Rattle.record.specs.Read.{read};
 ghost use Rattle.record.specs.Meaning.{bytes_in, link_in, call_in, reading_in, PartWithin, CallWithin, ReadingWithin};
+ghost use Rattle.record.specs.declared.Unread.TheVariants.{Cut};
 ghost use Rattle.reader.specs.Scan.{taken_in, field_at, TakenWithin, three_in, three_at, ThreeWithin, call_of, contents_in, fields_in};
 
 use buffers::number_at;
 use fnv::Tag;
-use record::{Call, Draw, Fields, First, Handle, LegalMap, Part, Reading, has, legal_map};
+use record::{Call, Draw, Fields, First, Handle, Part, Read, Unread, has, legal_map};
 
-// A field's number, 0 where its bit is down, and the position after it; or how many bytes it misses.
+// So many bytes of a field are missing.
 #[derive(Clone, Copy)]
-enum Taken {
-    Number(u64, usize),
-    Cut { missing: usize },
+struct Missing(usize);
+
+impl From<Missing> for Unread {
+    ghost from_gives = { λ missing e. e ≡ Cut missing.0 };
+
+    fn from(missing: Missing) -> Unread {
+        Unread::Cut { missing: missing.0 }
+    }
 }
 
-// The numbers of three fields, and the position after them; or how many bytes the one that is cut misses.
-#[derive(Clone, Copy)]
-enum Three {
-    Numbers(u64, u64, u64, usize),
-    Cut { missing: usize },
-}
-
-// The field at a position, if its bit stands.
-fn field_at(bytes: &[u8], at: usize, here: bool, width: usize) -> Taken
+// The field at a position, if its bit stands: its number, 0 where its bit is down, and the position after it.
+#[tactic(auto, using(record::proofs::LittleEndian::zero_below), unfolding(crate::specs::Scan::field_at))]
+fn field_at(bytes: &[u8], at: usize, here: bool, width: usize) -> Result<(u64, usize), Missing>
     requires at_in_bounds { at ≤ length bytes.now }
     requires width_bound { width ≤ 8 }
     ensures result_value { taken_in result ≡ field_at bytes.now at here width }
     ensures taken_within { TakenWithin bytes.now width result }
 {
     if !here {
-        return Taken::Number(0, at);
+        return Ok((0, at));
     }
     let there = bytes.len() - at;
     if there < width {
-        return Taken::Cut {
-            missing: width - there,
-        };
+        return Err(Missing(width - there));
     }
-    Taken::Number(number_at(bytes, at, width), at + width)
+    Ok((number_at(bytes, at, width), at + width))
 }
 
-// Three fields in a row, the first of which has the bit `bit`: they have `width`, 8 and 2 bytes.
-fn three_at(bytes: &[u8], at: usize, map: u8, bit: u8, width: usize) -> Three
+// Three fields in a row, the first of which has the bit `bit`: they have `width`, 8 and 2 bytes. Their numbers, and the
+// position after them.
+#[tactic(auto, unfolding(crate::specs::Scan::three_at))]
+fn three_at(
+    bytes: &[u8],
+    at: usize,
+    map: u8,
+    bit: u8,
+    width: usize,
+) -> Result<(u64, u64, u64, usize), Missing>
     requires at_in_bounds { at ≤ length bytes.now }
     requires bit_bound { bit < 6 }
     requires width_bound { width ≤ 8 }
     ensures result_value { three_in result ≡ three_at bytes.now at map bit width }
     ensures three_within { ThreeWithin bytes.now width result }
 {
-    match field_at(bytes, at, has(map, bit), width) {
-        Taken::Cut { missing } => Three::Cut { missing },
-        Taken::Number(first, a) => match field_at(bytes, a, has(map, bit + 1), 8) {
-            Taken::Cut { missing } => Three::Cut { missing },
-            Taken::Number(second, b) => match field_at(bytes, b, has(map, bit + 2), 2) {
-                Taken::Cut { missing } => Three::Cut { missing },
-                Taken::Number(third, next) => Three::Numbers(first, second, third, next),
-            },
-        },
-    }
+    let (first, a) = field_at(bytes, at, has(map, bit), width)?;
+    let (second, b) = field_at(bytes, a, has(map, bit + 1), 8)?;
+    let (third, next) = field_at(bytes, b, has(map, bit + 2), 2)?;
+    Ok((first, second, third, next))
 }
 
 // The number of a chain is a tag where its first way is 2, a handle where it is 3.
+#[tactic(auto, unfolding(record::specs::Meaning::link_in, record::specs::Call::link_by))]
 fn first_link(way: u8, number: u64) -> First
     ensures { (identity : ℕ) → link_in identity result ≡ link_by way identity number }
 {
@@ -80,6 +81,7 @@ fn first_link(way: u8, number: u64) -> First
 }
 
 // The call of a kind. The reader asks it of kinds of the table alone; for any other number it is a report.
+#[tactic(auto, unfolding(crate::specs::Scan::call_of, record::specs::Meaning::call_in, record::specs::Meaning::CallWithin, record::specs::Layout::kind_of, record::specs::Layout::among, record::specs::Layout::kinds))]
 fn call_of(kind: u8, f: Fields, bytes: Part) -> Call
     ensures by_index { (bs : List ℕ) → call_in bs result ≡ call_of (kind_of kind) f (bytes_in bs bytes) }
     ensures by_index_2 { (bs : List ℕ) → PartWithin bs bytes → CallWithin bs result }
@@ -136,7 +138,8 @@ fn call_of(kind: u8, f: Fields, bytes: Part) -> Call
 }
 
 // The contents of the bytes field, and with them the call.
-fn read_contents(bytes: &[u8], kind: u8, f: Fields, part: Part) -> Reading
+#[tactic(auto, using(crate::proofs::Positions::contents_cut, crate::proofs::Positions::ended_at), unfolding(crate::specs::Scan::contents_in, record::specs::Meaning::bytes_in, record::specs::Meaning::PartWithin))]
+fn read_contents(bytes: &[u8], kind: u8, f: Fields, part: Part) -> Result<Read, Unread>
     requires { part.start ≤ length bytes.now }
     ensures result_value { reading_in bytes.now result ≡ contents_in bytes.now kind f part }
     ensures reading_within { ReadingWithin bytes.now result }
@@ -144,64 +147,52 @@ fn read_contents(bytes: &[u8], kind: u8, f: Fields, part: Part) -> Reading
     let n = part.count as usize;
     let there = bytes.len() - part.start;
     if there < n {
-        return Reading::Cut { missing: n - there };
+        return Err(Unread::Cut { missing: n - there });
     }
     let end = part.start + n;
-    Reading::Whole {
+    Ok(Read {
         call: call_of(kind, f, part),
         used: end,
-    }
+    })
 }
 
 // The fields of a record whose map is its kind's.
-fn read_fields(bytes: &[u8], kind: u8, map: u8) -> Reading
+#[tactic(auto, using(crate::proofs::Positions::fields_at), unfolding(crate::specs::Scan::fields_in, crate::specs::Scan::contents_in))]
+fn read_fields(bytes: &[u8], kind: u8, map: u8) -> Result<Read, Unread>
     requires { 2 ≤ length bytes.now }
     ensures result_value { reading_in bytes.now result ≡ fields_in bytes.now map kind }
     ensures reading_within { ReadingWithin bytes.now result }
 {
-    match three_at(bytes, 2, map, 1, 1) {
-        Three::Cut { missing } => Reading::Cut { missing },
-        Three::Numbers(place, identity, offset, at) => match three_at(bytes, at, map, 4, 2) {
-            Three::Cut { missing } => Reading::Cut { missing },
-            Three::Numbers(size, number, count, start) => {
-                let f = Fields {
-                    place: place as u8,
-                    identity,
-                    offset: offset as u16,
-                    length: size as u16,
-                    number,
-                };
-                let part = Part {
-                    start,
-                    count: count as u16,
-                };
-                read_contents(bytes, kind, f, part)
-            }
-        },
-    }
+    let (place, identity, offset, at) = three_at(bytes, 2, map, 1, 1)?;
+    let (size, number, count, start) = three_at(bytes, at, map, 4, 2)?;
+    let f = Fields {
+        place: place as u8,
+        identity,
+        offset: offset as u16,
+        length: size as u16,
+        number,
+    };
+    let part = Part {
+        start,
+        count: count as u16,
+    };
+    read_contents(bytes, kind, f, part)
 }
 
 // Refusals in the order: empty, bit 0 down, no kind byte, no such kind, another map, a field cut.
-pub fn read_call(bytes: &[u8]) -> Reading
+#[tactic(auto, using(crate::proofs::FirstBytes::first_bytes), unfolding(crate::specs::Scan::fields_in, record::specs::Layout::map_of))]
+pub fn read_call(bytes: &[u8]) -> Result<Read, Unread>
     ensures result_value { reading_in bytes.now result ≡ read bytes.now }
     ensures reading_within { ReadingWithin bytes.now result }
 {
-    if bytes.len() == 0 {
-        return Reading::Cut { missing: 1 };
-    }
-    let map = bytes[0];
+    let map = *bytes.first().ok_or(Unread::Cut { missing: 1 })?;
     if !has(map, 0) {
-        return Reading::UnknownKind;
+        return Err(Unread::UnknownKind);
     }
-    if bytes.len() == 1 {
-        return Reading::Cut { missing: 1 };
-    }
-    let kind = bytes[1];
-    let LegalMap::Map(legal) = legal_map(kind) else {
-        return Reading::UnknownKind;
-    };
+    let kind = *bytes.get(1).ok_or(Unread::Cut { missing: 1 })?;
+    let legal = legal_map(kind).ok_or(Unread::UnknownKind)?;
     if legal != map {
-        return Reading::WrongMap;
+        return Err(Unread::WrongMap);
     }
     read_fields(bytes, kind, map)
 }

@@ -1,6 +1,5 @@
 pub mod FieldLaws
 pub mod KindRows
-pub mod KindTable
 pub mod LittleEndian
 pub mod RoundTrip
 pub mod Sizes

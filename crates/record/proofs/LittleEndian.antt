@@ -47,17 +47,15 @@ little_from (b ∷ bs) h =
       rest,
     )
 
--- the highest i bytes of w, and the byte below them
-pub byte_more : (bs : List ℕ) (at w i : ℕ) → i < w → at + w ≤ length bs
-    → from_little (take (i + 1) (drop (at + (w - (i + 1))) bs))
-    ≡ get_or bs (at + (w - 1 - i)) 0 + 256 * from_little (take i (drop (at + (w - i)) bs))
+-- the bytes from k on to the w-th, by the lowest of them and those behind it
+pub byte_more : (bs : List ℕ) (at w k : ℕ) → k < w → at + w ≤ length bs
+    → from_little (take (w - k) (drop (at + k) bs)) ≡ get_or bs (at + k) 0 + 256 * from_little (take (w - (k + 1)) (drop (at + (k + 1)) bs))
 unfolding from_little
-byte_more bs at w i l h =
-    let k = at + (w - 1 - i) in
-    let e : at + (w - (i + 1)) ≡ k = omega arith in
-    let s : at + (w - i) ≡ suc k = omega arith in
-    let below : k < length bs = omega arith in
-    rw (e, s, add-one, drop-cons bs k 0 below)
+byte_more bs at w k l h =
+    let e : w - k ≡ suc (w - (k + 1)) = omega arith in
+    let s : at + (k + 1) ≡ suc (at + k) = omega arith in
+    let below : at + k < length bs = omega arith in
+    rw (e, s, drop-cons bs (at + k) 0 below)
 
 pub below_more : {x b : ℕ} (n : ℕ) → x < 256 ^ n → b < 256 → x * 256 + b < 256 ^ (n + 1)
 below_more {x} {b} n h l = rw (add-one, pow-succ') (omega arith)

@@ -3,7 +3,6 @@ use Prim.Native.Nat.{ℕ, suc, ◌+◌, ◌≤◌}
 use mathlib.Core.Path.{◌≡◌}
 use mathlib.Core.List.{List, [], ◌∷◌, ◌++◌}
 use native.Mathlib.Nat.{add-zero, add-suc, suc-add, zero-add}
-use native.Mathlib.Numerals.{add-one}
 use lib.ListN.{length, drop, set}
 use lib.Seq.{sets, sets-eq}
 use Rattle.fnv.specs.Fnv.{little}
@@ -12,10 +11,6 @@ use Rattle.record.specs.Write.{only}
 use Rattle.record.specs.Size.{field_size}
 use Rattle.record.proofs.LittleEndian.{length_little}
 use Rattle.record.proofs.Sizes.{length_only}
-
--- a turn of a loop that stores a list from `at` on
-pub store_one : (d : List ℕ) (at i b : ℕ) (bs : List ℕ) → sets (set d (at + i) b) (at + (i + 1)) bs ≡ sets d (at + i) (b ∷ bs)
-store_one d at i b bs = rw (add-one, add-suc)
 
 -- a second list behind the first
 pub sets_append : (a b d : List ℕ) (at : ℕ) → sets d at (a ++ b) ≡ sets (sets d at a) (at + length a) b

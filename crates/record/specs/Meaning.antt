@@ -1,14 +1,13 @@
 -- What each case of the code's enums means: document 01's numbers and values.
-use Rattle.std.specs.Prelude.{ℕ, ◌+◌, ◌≤◌, List, length, take, drop}
+use Rattle.std.specs.Prelude.{ℕ, ◌+◌, ◌≤◌, Option, Some, None, Result, Ok, Err, List, length, take, drop}
 use Rattle.record.specs.declared.Part.{Part}
 use Rattle.record.specs.declared.First.{First}
 use Rattle.record.specs.declared.First.TheVariants.{Logged, Escrowed, Neither}
 use Rattle.record.specs.declared.Call as code
 use Rattle.record.specs.declared.Call.TheVariants.{Create, Exit, HeapWrite, HeapRead, SharedWrite, SharedRead, Attest, Check, Protect, Retrieve, Report, HandOver, Chain, Release}
-use Rattle.record.specs.declared.Reading as found
-use Rattle.record.specs.declared.Reading.TheVariants.{Whole, Cut, UnknownKind, WrongMap}
-use Rattle.record.specs.declared.LegalMap as legal
-use Rattle.record.specs.declared.LegalMap.TheVariants.{Map, NoSuchKind}
+use Rattle.record.specs.declared.Read as found
+use Rattle.record.specs.declared.Unread.{Unread}
+use Rattle.record.specs.declared.Unread.TheVariants.{Cut, UnknownKind, WrongMap}
 use Rattle.record.specs.Call.{Link, logged_link, escrowed_link, stray_link, Call, create, exit, heap_write, heap_read, shared_write, shared_read, attest, check, protect, retrieve, report, hand_over, chain, release}
 use Rattle.record.specs.Layout.{OrRefusal, gives, refuses}
 use Rattle.record.specs.Read.{Reading, whole, cut, unknown, wrong_map}
@@ -40,11 +39,14 @@ call_in bs (HandOver p) = hand_over p
 call_in bs (Chain i f v) = chain (link_in i f) (bytes_in bs v)
 call_in bs (Release i h) = release i h
 
-unfoldable pub reading_in : List ℕ → found.Reading → Reading
-reading_in bs (Whole c used) = whole (call_in bs c) used
-reading_in bs (Cut missing) = cut missing
-reading_in bs UnknownKind = unknown
-reading_in bs WrongMap = wrong_map
+abbrev pub unread_in : Unread → Reading
+unread_in (Cut missing) = cut missing
+unread_in UnknownKind = unknown
+unread_in WrongMap = wrong_map
+
+abbrev pub reading_in : List ℕ → Result found.Read Unread → Reading
+reading_in bs (Ok r) = whole (call_in bs r.call) r.used
+reading_in bs (Err e) = unread_in e
 
 -- a bytes field lies within the record
 unfoldable pub PartWithin : List ℕ → Part → Type 0
@@ -67,12 +69,11 @@ CallWithin bs (HandOver p) = Unit {0}
 CallWithin bs (Chain i f v) = PartWithin bs v
 CallWithin bs (Release i h) = Unit {0}
 
-unfoldable pub ReadingWithin : List ℕ → found.Reading → Type 0
-ReadingWithin bs (Whole c used) = CallWithin bs c × (used ≤ length bs)
-ReadingWithin bs (Cut missing) = Unit {0}
-ReadingWithin bs UnknownKind = Unit {0}
-ReadingWithin bs WrongMap = Unit {0}
+abbrev pub ReadingWithin : List ℕ → Result found.Read Unread → Type 0
+ReadingWithin bs (Ok r) = CallWithin bs r.call × (r.used ≤ length bs)
+ReadingWithin bs (Err e) = Unit {0}
 
-unfoldable pub legal_map : legal.LegalMap → OrRefusal ℕ
-legal_map (Map m) = gives m
-legal_map NoSuchKind = refuses 2
+-- a kind's one legal map, or none
+abbrev pub legal_map : Option ℕ → OrRefusal ℕ
+legal_map (Some m) = gives m
+legal_map None = refuses 2

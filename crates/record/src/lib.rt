@@ -8,11 +8,11 @@ use fnv::Tag;
 pub use kinds::{has, legal_map};
 
 #[repr(C)]
-#[derive(Clone, Copy)]
+#[derive(Clone, Copy, PartialEq, Eq)]
 pub struct Handle(pub u64);
 
 #[repr(C)]
-#[derive(Clone, Copy)]
+#[derive(Clone, Copy, PartialEq, Eq)]
 pub struct Draw(pub u64);
 
 // A bytes field: where it starts in the record, and how many bytes it has.
@@ -93,11 +93,16 @@ pub enum Call {
     },
 }
 
-// What the reader finds.
+// What the reader finds: a call, and how many bytes its record has.
 #[derive(Clone, Copy)]
-pub enum Reading {
-    // A call, and how many bytes its record has.
-    Whole { call: Call, used: usize },
+pub struct Read {
+    pub call: Call,
+    pub used: usize,
+}
+
+// Why there is no call to be read.
+#[derive(Clone, Copy, PartialEq, Eq)]
+pub enum Unread {
     // The record ends before a field does, or is empty: so many more bytes finish that field.
     Cut { missing: usize },
     // Bit 0 of the map is down, or there is no such kind.
@@ -115,11 +120,4 @@ pub struct Fields {
     pub offset: u16,
     pub length: u16,
     pub number: u64,
-}
-
-// A kind's one legal map.
-#[derive(Clone, Copy)]
-pub enum LegalMap {
-    Map(u8),
-    NoSuchKind,
 }

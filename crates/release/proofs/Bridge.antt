@@ -93,8 +93,8 @@ module _ (b : BoxRecord) (rows : List EscrowRow) (values : List ℕ) (i : ℕ) (
       (λ e.
       let n = named e in
       record {
-        log = none_put _ _ _ refl;
-        escrow = spends (record { used = n.used; fits = omega (arith, n.used); unspent = n.unspent; edit = refl; counts = refl });
+        log = none_put _ _ refl;
+        escrow = spends (record { at = given_at b rows i h; used = n.used; fits = omega (arith, n.used); unspent = n.unspent; edit = refl; counts = refl });
       })
 
 -- it uses no byte of a record, and shows none

@@ -10,13 +10,14 @@ use lib.ListN.{length, take, drop, set, replicate, length-append, length-drop, l
 use lib.Seq.{sets, sets-eq, drop-drop, drop-append-le}
 use borrow.Rule.Slice.PartMut.{put_mid, mid_of}
 use Rattle.lists.specs.Lists.{all_zero}
+use Rattle.std.specs.Prelude.{Some}
 use Rattle.ideal.specs.declared.EscrowRow.{EscrowRow}
 use Rattle.ideal.specs.State.{part}
 use Rattle.ideal.specs.Tables.{escrow_table}
 use Rattle.ideal.specs.OneCall.{moved_down}
 use Rattle.ideal.proofs.Table.{part_length, zeros}
 use Rattle.buffers.proofs.Loops.{part_replaced}
-use Rattle.state.specs.Edits.{edited, lowered_from}
+use Rattle.state.specs.Edits.{escrow_edited, lowered_from}
 
 -- ---- value bytes
 
@@ -71,6 +72,6 @@ put_after_lem f x (r ∷ rows) zero h = refl
 put_after_lem f x (r ∷ rows) (suc k) h = ap (λ l. r ∷ l) (put_after_lem f x rows k (omega arith))
 
 pub edited_rows : (rows : List EscrowRow) (k n : ℕ) (x : EscrowRow) → k < length rows
-    → edited escrow_table true k x n rows ≡ take k rows ++ (x ∷ map (moved_down n) (drop (suc k) rows))
+    → escrow_edited (Some (record { at = k; row = x; fall = n })) rows ≡ take k rows ++ (x ∷ map (moved_down n) (drop (suc k) rows))
 unfolding lowered_from moved_down
 edited_rows rows k n x h = rw (add-one k) (put_after_lem _ x rows k h)

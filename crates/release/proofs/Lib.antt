@@ -1,3 +1,3 @@
 pub mod Closed
-pub mod Steps
 pub mod Bridge
+pub mod Steps

@@ -1,5 +1,5 @@
 -- What release leaves and answers, on the parts of the box that it is given.
-use Rattle.std.specs.Prelude.{ℕ, ◌-◌, ◌≤◌, List, ◌++◌, get_or, take, drop, replicate, eqb}
+use Rattle.std.specs.Prelude.{ℕ, ◌-◌, ◌≤◌, List, ◌++◌, get_or, take, drop, replicate, eqb, Some, None}
 use Rattle.std.proofs.lemmas.List.Edits.{sets}
 use Rattle.record.specs.declared.Handle.{Handle}
 use Rattle.ideal.specs.declared.BoxRecord.{BoxRecord}
@@ -12,7 +12,7 @@ use Rattle.ideal.specs.Refusals.{is_row}
 use Rattle.ideal.specs.Fit.{RowsFit}
 use Rattle.state.specs.declared.Change.{Change}
 use Rattle.state.specs.Answers.{accepted_with}
-use Rattle.state.specs.Edits.{no_log_edit, spending, lessened, Stored, stored, unless, escrow_store}
+use Rattle.state.specs.Edits.{spending, lessened, Stored, stored, unless, escrow_store}
 use Rattle.state.specs.Parts.{caller_of}
 use Rattle.retrieval.specs.Narrow.{found_on}
 
@@ -26,7 +26,7 @@ abbrev pub spent_at : BoxRecord → (at : ℕ) → EscrowRow → Change
 spent_at b at r =
     record {
       held = escrow_store.held b (lessened b.escrow r.length);
-      edits = record { log = no_log_edit; escrow = spending at r };
+      edits = record { log = None; escrow = Some (spending at r) };
       answer = accepted_with 0;
     }
 

@@ -2,102 +2,67 @@
 
 #![tactic(auto)]
 
-ghost use Rattle.std.specs.Prelude.{◌≡◌, List, ℕ, ◌≤◌, length, take};
+ghost use Rattle.std.specs.Prelude.{◌≡◌, List, ℕ, ◌≤◌, ◌<◌, length, IfSome, unwrap_or};
 ghost use Rattle.ideal.specs.State.{find, position};
 ghost use Rattle.ideal.specs.Step.{is_escrowed};
-ghost use Rattle.ideal.specs.Tables.{escrow_table, entry_of, entries_of};
+ghost use Rattle.ideal.specs.Tables.{escrow_table, entries_of};
 ghost use Rattle.ideal.specs.Refusals.{is_row};
 ghost use Rattle.state.specs.Parts.{TableFits};
-ghost use Rattle.retrieval.specs.Search.{entry_found, sought, FoundWithin, index_found};
+ghost use Rattle.state.specs.Refusals.{answer_in};
+ghost use Rattle.retrieval.specs.Search.{entry_found, sought};
 ghost use Rattle.retrieval.specs.Narrow.{retrieve_answer, retrieve_heaps};
 
 use buffers::put;
-use ideal::{BoxRecord, EscrowRow, HEAP};
+use ideal::{BoxRecord, EscrowRow};
 use record::Handle;
-use state::{Answer, EscrowTable, accepted, refused};
-
-// The search's answer: the index of a row, or that there is none.
-#[derive(Clone, Copy)]
-pub enum Found {
-    At(usize),
-    Nothing,
-}
+use state::{Refusal, heap_part, running_place};
 
 // Whether a row has this handle, source and recipient, and is unspent.
-fn row_is(row: EscrowRow, handle: Handle, source: u64, recipient: u64) -> bool
-    ensures { (values : List ℕ) → result ≡ is_escrowed handle source recipient (entry_of escrow_table values row) }
+#[tactic(auto, unfolding(ideal::specs::Refusals::is_row))]
+fn row_is(row: &EscrowRow, handle: Handle, source: u64, recipient: u64) -> bool
+    ensures { result ≡ is_row handle source recipient row.now }
 {
-    if row.handle.0 != handle.0 {
-        return false;
-    }
-    if row.source != source {
-        return false;
-    }
-    if row.recipient != recipient {
-        return false;
-    }
-    row.mark == 0
+    row.handle == handle && row.source == source && row.recipient == recipient && row.mark == 0
 }
 
-// The first of the first n rows that is unspent and has this handle, source and recipient.
-pub fn find_row(
-    rows: [EscrowRow; 64],
-    n: usize,
-    handle: Handle,
-    source: u64,
-    recipient: u64,
-) -> Found
-    requires { n ≤ 64 }
-    ensures found_within { FoundWithin n result }
-    ensures by_index { (values : List ℕ) → entry_found values rows result ≡ sought (find (is_escrowed handle source recipient) (entries_of escrow_table values (take n rows))) }
-    ensures result_value { index_found n result ≡ position (is_row handle source recipient) (take n rows) }
+// The first row that is unspent and has this handle, source and recipient.
+pub fn find_row(rows: &[EscrowRow], handle: Handle, source: u64, recipient: u64) -> Option<usize>
+    ensures found_within { IfSome result (λ i. i < length rows.now) }
+    ensures by_index { (values : List ℕ) → entry_found values rows.now result ≡ sought (find (is_escrowed handle source recipient) (entries_of escrow_table values rows.now)) }
+    ensures result_value { unwrap_or result (length rows.now) ≡ position (is_row handle source recipient) rows.now }
 {
-    let mut i: usize = 0;
-    while i < n {
-        let row = rows[i];
-        if row_is(row, handle, source, recipient) {
-            return Found::At(i);
-        }
-        i += 1;
-    }
-    Found::Nothing
+    rows.iter()
+        .position(|row| row_is(row, handle, source, recipient))
 }
 
 // The value of the row goes into the running heap at the offset.
+#[tactic(auto, using(crate::proofs::Search::given, crate::proofs::Search::not_given, crate::proofs::Steps::fits, crate::proofs::Steps::size), unfolding(crate::specs::Search::entry_found, ideal::specs::Step::value_in, ideal::specs::Step::beyond, crate::specs::Narrow::retrieve_answer, crate::specs::Narrow::retrieve_heaps, crate::specs::Narrow::retrieve_refusal, ideal::specs::Step::first_holding, state::specs::Answers::settled, state::specs::Answers::answered, ideal::specs::Step::absent))]
 pub fn retrieve(
     held: BoxRecord,
-    escrow: EscrowTable,
+    escrow: &[EscrowRow],
     heaps: &mut [u8],
     values: &[u8],
     source: u64,
     offset: u16,
     handle: Handle,
-) -> Answer
-    requires { (held.running ≤ 16) × (length heaps.old ≡ 4096) × TableFits escrow_table held.escrow escrow.rows values.now }
-    ensures value { result ≡ retrieve_answer held escrow.rows values.now source offset handle }
-    ensures heaps_after { heaps.new ≡ retrieve_heaps held escrow.rows heaps.old values.now source offset handle }
+) -> Result<u64, Refusal>
+    requires { (held.running ≤ 16) × (length escrow.now ≡ 64) × (length heaps.old ≡ 4096) × TableFits escrow_table held.escrow escrow.now values.now }
+    ensures value { answer_in result ≡ retrieve_answer held escrow.now values.now source offset handle }
+    ensures heaps_after { heaps.new ≡ retrieve_heaps held escrow.now heaps.old values.now source offset handle }
 {
-    if held.running == 16 {
-        return refused(4);
-    }
+    let place = running_place(held.running)?;
     if source == 0 {
-        return refused(9);
+        return Err(Refusal::NoIdentity);
     }
-    let place = held.running as usize;
-    let used = held.escrow;
-    let rows = escrow.rows;
+    let rows = &escrow[..held.escrow.rows as usize];
     let recipient = held.identities[place];
-    let Found::At(i) = find_row(rows, used.rows as usize, handle, source, recipient) else {
-        return refused(10);
+    let Some(i) = find_row(rows, handle, source, recipient) else {
+        return Err(Refusal::NotEscrowed);
     };
-    let entry = rows[i];
-    let size = entry.length as usize;
-    if offset as usize + size > 256 {
-        return refused(11);
-    }
+    let entry = &rows[i];
+    let (start, _) = heap_part(place, offset, entry.length)?;
     let from = entry.first as usize;
-    let until = from + size;
-    let start = HEAP * place + offset as usize;
+    let until = from + entry.length as usize;
     put(&values[from..until], heaps, start);
-    accepted(size as u64)
+    Ok(u64::from(entry.length))
 }

@@ -1,32 +1,22 @@
 -- Rows are blank where the bits of their fields, joined, are 0. Assumes nothing.
-use Prim.Native.Nat.{ℕ, zero, suc, ◌+◌, ◌*◌, ◌<◌}
-use mathlib.Core.Path.{◌≡◌, refl, ap, ◌∙◌}
+use Prim.Native.Nat.{ℕ, zero, suc, ◌+◌, ◌-◌, ◌*◌, ◌<◌, ◌≤◌, min}
+use mathlib.Core.Path.{◌≡◌, refl, sym, ap, ◌∙◌}
 use mathlib.Core.Bool.{Bool, ◌&&◌}
 use mathlib.Core.List.{List}
 use native.Mathlib.Omega.{arith}
 use native.Mathlib.Numerals.{add-one}
 use lib.Bits.{bit_or}
 use lib.Dec.{eqb}
-use lib.ListN.{length, get_or, drop}
+use lib.ListN.{length, get_or, take, drop, length-drop, drop_of_length-le}
 use lib.Seq.{drop-cons}
+use Rattle.std.proofs.lemmas.List.{drop_min, take_all}
 use borrow.Author.Tests.{ne_eqb}
 use Rattle.ideal.specs.declared.LogRow.{LogRow}
 use Rattle.ideal.specs.declared.EscrowRow.{EscrowRow}
 use Rattle.ideal.specs.State.{every}
 use Rattle.ideal.specs.Tables.{log_table, escrow_table}
-use Rattle.lists.proofs.Bools.{and_assoc, and_swap}
+use Rattle.lists.proofs.Bools.{and_assoc, and_swap, and_nil}
 use Rattle.buffers.proofs.Loops.{joined}
-
--- one element on
-pub every_step : {A : Type 0} (p : A → Bool) (l : List A) (d : A) (i : ℕ) → i < length l
-    → every p (drop i l) ≡ p (get_or l i d) && every p (drop (i + 1) l)
-unfolding every
-every_step p l d i h = rw (drop-cons l i d h, add-one i)
-
--- one row on, where `more` says that the rows so far are blank
-pub blank_step : {A : Type 0} (p : A → Bool) (l : List A) (d : A) (i : ℕ) (so more : Bool) → i < length l
-    → more ≡ so && p (get_or l i d) → more && every p (drop (i + 1) l) ≡ so && every p (drop i l)
-blank_step p l d i so more h e = rw (e, every_step p l d i h) (and_assoc so _ _)
 
 -- bits joined field by field are those of the whole rows
 join_more : (s a x d z : ℕ) → eqb s 0 ≡ eqb (bit_or a x) 0
@@ -73,3 +63,19 @@ escrow_joined sources recipients handles places marks r =
     join_more four before here marks r.mark four_is
     ∙ joined (bit_or before marks) (bit_or here r.mark)
     ∙ ap (λ b. eqb (bit_or before marks) 0 && b) (simp (joined, sum_bits, and_assoc))
+
+-- one row on, where `more` says that the rows so far are blank
+pub blank_step : {A : Type 0} (p : A → Bool) (l : List A) (d : A) (i : ℕ) (so more : Bool) → i < length l
+    → more ≡ so && p (get_or l i d) → more && every p (drop (i + 1) l) ≡ so && every p (drop i l)
+unfolding every
+blank_step p l d i so more h e = rw (e, drop-cons l i d h, add-one i) (and_assoc so _ _)
+
+-- behind the last of the rows from n on
+pub blank_end : {A : Type 0} (p : A → Bool) (rows : List A) (n m i : ℕ) (so : Bool) → m ≡ min n (length rows)
+    → let rest = take (length rows - m) (drop m rows) in
+    length rest ≤ i → so && every p (drop i rest) ≡ every p rest → so ≡ every p (drop n rows)
+unfolding every
+blank_end p rows n m i so e over inv =
+    let rest = take (length rows - m) (drop m rows) in
+    let whole : rest ≡ drop n rows = take_all _ _ (simp length-drop (omega arith)) ∙ rw (e, drop_min) in
+    sym (and_nil so) ∙ (rw (drop_of_length-le rest over) at inv) ∙ ap (every p) whole

@@ -1,17 +1,18 @@
 // Create and exit: a place is taken and emptied. Report: what the box holds.
 
-#![tactic(auto)]
+#![tactic(auto, using(crate::proofs::Map::bits, crate::proofs::Ones::ones_counted), unfolding(crate::specs::Narrow::create_on, crate::specs::Narrow::exit_on, crate::specs::Narrow::exit_heaps, crate::specs::Narrow::report_on, crate::specs::Narrow::hand_over_on, ideal::specs::Step::first_holding, state::specs::Answers::settled, state::specs::Answers::answered))]
 
 mod running;
 
 ghost use Rattle.std.specs.Prelude.{◌≡◌, ◌^◌, ◌<◌};
 ghost use Rattle.ideal.specs.Tables.{taken_map};
+ghost use Rattle.state.specs.Refusals.{change_in};
 ghost use Rattle.services.specs.Narrow.{Leaving, create_on, exit_on, exit_heaps, report_on};
 
 use buffers::clear;
 use ideal::{BoxRecord, HEAP};
 pub use running::hand_over;
-use state::{Answer, Change, accepted, refuse, unedited};
+use state::{Answer, Change, Refusal, accepted, unedited};
 
 // The bit of a place in the map of taken places.
 fn bit_of(place: u8) -> u16
@@ -21,54 +22,52 @@ fn bit_of(place: u8) -> u16
     1u16 << place
 }
 
-pub fn create(held: BoxRecord, place: u8, identity: u64) -> Change
+pub fn create(held: BoxRecord, place: u8, identity: u64) -> Result<Change, Refusal>
     requires { held.taken ≡ taken_map held.identities }
-    ensures { result ≡ create_on held place identity }
+    ensures { change_in held result ≡ create_on held place identity }
 {
     if place > 15 {
-        return refuse(held, 6);
+        return Err(Refusal::NoSuchPlace);
     }
     let p = place as usize;
     if held.identities[p] != 0 {
-        return refuse(held, 7);
+        return Err(Refusal::WrongPlace);
     }
     if identity == 0 {
-        return refuse(held, 9);
+        return Err(Refusal::NoIdentity);
     }
-    let taken = held.taken + bit_of(place);
     let mut next = held;
-    next.taken = taken;
+    next.taken += bit_of(place);
     next.identities[p] = identity;
-    unedited(next, accepted(place as u64))
+    Ok(unedited(next, accepted(place as u64)))
 }
 
 // The heap is cleared here, not at the next create.
-pub fn exit_running(held: BoxRecord, heaps: &mut [u8]) -> Change
+pub fn exit_running(held: BoxRecord, heaps: &mut [u8]) -> Result<Change, Refusal>
     requires { Leaving held heaps.old }
-    ensures value { result ≡ exit_on held }
+    ensures value { change_in held result ≡ exit_on held }
     ensures heaps_after { heaps.new ≡ exit_heaps held heaps.old }
 {
     let place = held.running;
     if place == 16 {
-        return refuse(held, 4);
+        return Err(Refusal::NoneRuns);
     }
     let p = place as usize;
     let first = HEAP * p;
     let end = first + HEAP;
     clear(&mut heaps[first..end]);
-    let left = held.taken - bit_of(place);
     let mut next = held;
-    next.taken = left;
+    next.taken -= bit_of(place);
     next.identities[p] = 0;
     next.running = 16;
-    unedited(next, accepted(0))
+    Ok(unedited(next, accepted(0)))
 }
 
 pub fn report(held: BoxRecord) -> Answer
     ensures { result ≡ report_on held }
 {
-    let log = held.log;
-    let escrow = held.escrow;
-    let services = u16::count_ones(held.taken);
-    accepted(services as u64 + 256 * (log.rows as u64) + 65536 * (escrow.rows as u64))
+    let services = held.taken.count_ones();
+    let log_rows = held.log.rows as u64;
+    let escrow_rows = held.escrow.rows as u64;
+    accepted(services as u64 + 256 * log_rows + 65536 * escrow_rows)
 }

@@ -12,6 +12,7 @@ ghost use Rattle.sheet.specs.Stored.{AtFront};
 use text::{put_byte, put_number, put_shown};
 
 // The first line of a sheet.
+#[tactic(auto, unfolding(crate::specs::Sheet::header, crate::specs::Sheet::bytes_of))]
 pub fn header() -> [u8; 23]
     ensures { result ≡ header }
 {
@@ -19,6 +20,7 @@ pub fn header() -> [u8; 23]
 }
 
 // The line for a script that is too long.
+#[tactic(auto, unfolding(crate::specs::Sheet::too_long, crate::specs::Sheet::bytes_of))]
 pub fn too_long() -> [u8; 9]
     ensures { result ≡ too_long }
 {
@@ -26,19 +28,15 @@ pub fn too_long() -> [u8; 9]
 }
 
 // Whether a line with this code is the last.
+#[tactic(auto, unfolding(crate::specs::Records::last_code))]
 pub fn is_last(code: u8) -> bool
     ensures { result ≡ last_code code }
 {
-    if code == 1 {
-        return true;
-    }
-    if code == 2 {
-        return true;
-    }
-    code == 3
+    matches!(code, 1 | 2 | 3)
 }
 
 // The line of an answer, at the front of out. A number has at most 20 digits.
+#[tactic(auto, using(crate::proofs::Texts::length_spaced, crate::proofs::Texts::length_shown))]
 pub fn write_line(code: u8, number: u64, used: usize, shown: &[u8], out: &mut [u8]) -> usize
     requires { 65 + 2 * length shown.now ≤ length out.old }
     ensures { AtFront (line (record { code = code; number = number; used = used; shown = shown.now }))

@@ -9,15 +9,15 @@ use Rattle.ideal.specs.Soundness.{has_identity, right_tag}
 unfoldable pub row_placed : (size at : ℕ) → LogRow → Bool
 row_placed size at r = eqb r.first at && (leb r.length 256 && (has_identity r && leb (r.first + r.length) size))
 
--- such rows one after the other
+-- such rows one after the other: each begins where the one before it ends
 unfoldable pub rows_placed : (size at : ℕ) → List LogRow → Bool
 rows_placed size at [] = true
-rows_placed size at (r ∷ rs) = row_placed size at r && rows_placed size (at + r.length) rs
+rows_placed size at (r ∷ rs) = row_placed size at r && rows_placed size (r.first + r.length) rs
 
 -- where they end
 unfoldable pub after : (at : ℕ) → List LogRow → ℕ
 after at [] = at
-after at (r ∷ rs) = after (at + r.length) rs
+after at (r ∷ rs) = after (r.first + r.length) rs
 
 -- such rows, and each tag the right one
 unfoldable pub placed_and_tagged : List ℕ → (at : ℕ) → List LogRow → Bool

@@ -2,183 +2,130 @@
 
 #![tactic(auto)]
 
-ghost use Rattle.std.specs.Prelude.{◌≡◌, true, ◌&&◌, [], ◌∷◌, ◌≤◌, ◌<◌, ◌^◌, eqb, length, take, drop};
+ghost use Rattle.std.specs.Prelude.{◌≡◌, true, ◌&&◌, [], ◌∷◌, ◌+◌, ◌≤◌, ◌<◌, ◌^◌, length, drop};
 ghost use Rattle.ideal.specs.State.{every};
-ghost use Rattle.ideal.specs.Tables.{log_table, entries_of};
+ghost use Rattle.ideal.specs.Tables.{log_table, entry_of, entries_of};
 ghost use Rattle.ideal.specs.Fit.{RowsFit};
 ghost use Rattle.soundness.specs.Tests.{row_sound, rows_sound, differ_before, log_row_right, same_logged, log_sound};
 ghost use Rattle.soundlog.specs.Placed.{row_placed, placed_and_tagged};
 
 use buffers::all_zero;
-use fnv::{Four, four_tags, tag_of};
+use fnv::{four_tags, tag_of};
 use ideal::{LogRow, Used};
-use pairs::row_is;
+use pairs::in_log;
+
+// Where a row's value ends.
+fn end_of(row: LogRow) -> usize
+    ensures { result ≡ row.first + row.length }
+{
+    row.first as usize + row.length as usize
+}
+
+fn value_of(row: LogRow, values: &[u8]) -> &[u8]
+    requires { row.first + row.length ≤ length values.now }
+    ensures { result.now ≡ (entry_of log_table values.now row).value }
+{
+    let start = row.first as usize;
+    &values[start..end_of(row)]
+}
 
 // Whether a row begins at `at` and is right by itself but for its tag.
+#[tactic(auto, unfolding(crate::specs::Placed::row_placed, ideal::specs::Soundness::has_identity))]
 fn row_placed(row: LogRow, at: usize, size: usize) -> bool
     ensures { result ≡ row_placed size at row }
 {
-    let start = row.first as usize;
-    if start != at {
-        return false;
-    }
-    if row.length > 256 {
-        return false;
-    }
-    if row.identity == 0 {
-        return false;
-    }
-    let end = start + row.length as usize;
-    end <= size
+    row.first as usize == at && row.length <= 256 && row.identity != 0 && end_of(row) <= size
 }
 
 // Whether a row begins at `at` and is right by itself.
+#[tactic(auto, using(crate::proofs::Placed::row_parts, crate::proofs::Placed::placed_within), unfolding(ideal::specs::Soundness::right_tag))]
 fn row_sound(row: LogRow, at: usize, values: &[u8]) -> bool
-    requires { at < 2 ^ 32 }
     ensures { result ≡ row_sound log_table (log_row_right values.now) at row }
 {
-    if !row_placed(row, at, values.len()) {
-        return false;
-    }
-    let end = at + row.length as usize;
-    let tag = tag_of(row.identity, &values[at..end]);
-    row.tag.0 == tag.0
-}
-
-// Whether four numbers are those of another four.
-fn same_four(x: Four, y: Four) -> bool
-    ensures { result ≡ eqb x.0 y.0 && (eqb x.1 y.1 && (eqb x.2 y.2 && eqb x.3 y.3)) }
-{
-    if x.0 != y.0 {
-        return false;
-    }
-    if x.1 != y.1 {
-        return false;
-    }
-    if x.2 != y.2 {
-        return false;
-    }
-    x.3 == y.3
+    row_placed(row, at, values.len()) && row.tag == tag_of(row.identity, value_of(row, values))
 }
 
 // Whether four rows are so, one after the other: placed first, and then their tags made side by side.
+#[tactic(auto, using(crate::proofs::Placed::placed_within), unfolding(crate::specs::Placed::placed_and_tagged, crate::specs::Placed::rows_placed, ideal::specs::Soundness::right_tag, ideal::specs::Tables::entries_of, lists::specs::Lists::every))]
 fn four_sound(a: LogRow, b: LogRow, c: LogRow, d: LogRow, at: usize, values: &[u8]) -> bool
-    requires { at < 2 ^ 32 }
     ensures { result ≡ placed_and_tagged values.now at (a ∷ b ∷ c ∷ d ∷ []) }
 {
-    if !row_placed(a, at, values.len()) {
+    let size = values.len();
+    if !(row_placed(a, at, size)
+        && row_placed(b, end_of(a), size)
+        && row_placed(c, end_of(b), size)
+        && row_placed(d, end_of(c), size))
+    {
         return false;
     }
-    let second = at + a.length as usize;
-    if !row_placed(b, second, values.len()) {
-        return false;
-    }
-    let third = second + b.length as usize;
-    if !row_placed(c, third, values.len()) {
-        return false;
-    }
-    let fourth = third + c.length as usize;
-    if !row_placed(d, fourth, values.len()) {
-        return false;
-    }
-    let end = fourth + d.length as usize;
-    let right = four_tags(
-        Four(a.identity, b.identity, c.identity, d.identity),
-        &values[at..second],
-        &values[second..third],
-        &values[third..fourth],
-        &values[fourth..end],
+    let [w, x, y, z] = four_tags(
+        [a.identity, b.identity, c.identity, d.identity],
+        value_of(a, values),
+        value_of(b, values),
+        value_of(c, values),
+        value_of(d, values),
     );
-    same_four(Four(a.tag.0, b.tag.0, c.tag.0, d.tag.0), right)
+    // One by one: == on arrays divides, as the compiler reads it, and the soundness test must not (request P4).
+    a.tag.0 == w && b.tag.0 == x && c.tag.0 == y && d.tag.0 == z
 }
 
-// Whether the first n rows are right and one after the other, from 0 to `end`. By fours while there are four, since most of
-// the time goes into their tags.
-fn rows_sound(rows: [LogRow; 64], n: usize, end: usize, values: &[u8]) -> bool
-    requires { (n ≤ 64) × (end ≤ length values.now) }
-    ensures { result ≡ rows_sound log_table (log_row_right values.now) end 0 (take n rows) }
+// Whether the rows are right and one after the other, from 0 to `end`. By fours while there are four, since most of the time
+// goes into their tags; and by a pattern, since chunks_exact divides. Never inlined: the loops over the value bytes would run
+// short of registers beside it.
+#[inline(never)]
+#[tactic(auto, using(crate::proofs::Placed::four_step, soundness::proofs::Rows::rows_step, soundness::proofs::Rows::rows_more, soundness::proofs::Rows::rows_ended))]
+fn rows_sound(rows: &[LogRow], end: usize, values: &[u8]) -> bool
+    ensures { result ≡ rows_sound log_table (log_row_right values.now) end 0 rows.now }
 {
     let mut at: usize = 0;
-    let mut i: usize = 0;
-    while n - i >= 4 {
-        let a = rows[i];
-        let b = rows[i + 1];
-        let c = rows[i + 2];
-        let d = rows[i + 3];
-        if !four_sound(a, b, c, d, at, values) {
+    let mut rest = rows;
+    while let [a, b, c, d, more @ ..] = rest {
+        if !four_sound(*a, *b, *c, *d, at, values) {
             return false;
         }
-        at = d.first as usize + d.length as usize;
-        i += 4;
+        at = end_of(*d);
+        rest = more;
     }
-    while i < n {
-        let row = rows[i];
-        if !row_sound(row, at, values) {
+    for row in rest {
+        if !row_sound(*row, at, values) {
             return false;
         }
-        at += row.length as usize;
-        i += 1;
+        at = end_of(*row);
     }
     at == end
 }
 
-// Whether none of the first n rows has the pair of one before it. Their tags are right, so that a pair has one tag: a row is
-// compared with those before it only where one of these has its slot, the tag's 10 lowest bits. In one function, because the
-// rows are copied as a function begins that has a loop over them.
-fn pairs_differ(rows: [LogRow; 64], n: usize, values: &[u8]) -> bool
-    requires { (n ≤ 64) × RowsFit log_table rows n (length values.now) }
-    ensures { result ≡ differ_before same_logged [] (entries_of log_table values.now (take n rows)) }
+// Whether no row has the pair of one before it. Their tags are right, so that a pair has one tag: a row is compared with those
+// before it only where one of these has its slot, the tag's 10 lowest bits. Never inlined, as rows_sound.
+#[inline(never)]
+fn pairs_differ(rows: &[LogRow], values: &[u8]) -> bool
+    requires { RowsFit log_table rows.now (length rows.now) (length values.now) }
+    ensures { result ≡ differ_before same_logged [] (entries_of log_table values.now rows.now) }
 {
-    let mut seen = [0u8; 1024];
-    let mut i: usize = 0;
-    while i < n {
-        let row = rows[i];
-        let start = row.first as usize;
-        let end = start + row.length as usize;
+    let mut seen = [false; 1024];
+    for (i, row) in rows.iter().enumerate() {
         let slot = (row.tag.0 & 1023) as usize;
-        let mut j: usize = 0;
-        if seen[slot] == 0 {
-            j = i;
+        let value = value_of(*row, values);
+        if seen[slot] && in_log(&rows[..i], values, row.identity, row.tag, value) {
+            return false;
         }
-        while j < i {
-            let other = rows[j];
-            if row_is(other, values, row.identity, row.tag, &values[start..end]) {
-                return false;
-            }
-            j += 1;
-        }
-        seen[slot] = 1;
-        i += 1;
+        seen[slot] = true;
     }
     true
 }
 
-// The log of rows that are known to be blank from the used ones on. The bytes first, because rows that were just copied are
-// slow to read.
-pub fn log_sound(rows: [LogRow; 64], values: &[u8], used: Used) -> bool
-    requires { (length values.now ≡ 4096) × (every log_table.is_blank (drop used.rows rows) ≡ true) }
-    ensures { result ≡ log_sound rows values.now used }
+// The log of 64 rows that are known to be blank from the used ones on. No slots are cleared for one row alone.
+#[tactic(auto, using(soundness::proofs::Blank::too_many_rows, soundness::proofs::Blank::too_many_bytes, soundness::proofs::Blank::parts, soundness::proofs::Differ::few_differ), unfolding(soundness::specs::Tests::log_sound))]
+pub fn log_sound(rows: &[LogRow], values: &[u8], used: Used) -> bool
+    requires { (length rows.now ≡ 64) × (length values.now ≡ 4096) × (every log_table.is_blank (drop used.rows rows.now) ≡ true) }
+    ensures { result ≡ log_sound rows.now values.now used }
 {
-    if used.rows > 64 {
+    if used.rows > 64 || used.bytes > 4096 {
         return false;
     }
-    if used.bytes > 4096 {
-        return false;
-    }
-    let n = used.rows as usize;
+    let rows = &rows[..used.rows as usize];
     let end = used.bytes as usize;
-    if !all_zero(&values[end..]) {
-        return false;
-    }
-    // Asked first, because the rows are copied for a loop over them.
-    if n == 0 {
-        return end == 0;
-    }
-    if !rows_sound(rows, n, end, values) {
-        return false;
-    }
-    if n < 2 {
-        return true;
-    }
-    pairs_differ(rows, n, values)
+    all_zero(&values[end..])
+        && rows_sound(rows, end, values)
+        && (rows.len() < 2 || pairs_differ(rows, values))
 }

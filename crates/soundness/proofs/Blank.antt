@@ -1,32 +1,36 @@
 -- A table whose unused rows are blank: what is left of its test. Assumes nothing.
-use Prim.Native.Nat.{ℕ, ◌≤◌}
+use Prim.Native.Nat.{ℕ, ◌-◌, ◌≤◌, ◌<◌}
 use mathlib.Core.Path.{◌≡◌}
 use mathlib.Core.Bool.{Bool, true, false, ◌&&◌}
 use mathlib.Core.List.{List, []}
-use lib.Dec.{eqb}
-use lib.ListN.{take, drop}
-use borrow.Author.Tests.{le-leb}
+use lib.ListN.{length, take, drop}
+use borrow.Author.Tests.{le-leb, lt-leb}
+use Rattle.buffers.proofs.Loops.{to_end}
 use Rattle.ideal.specs.declared.Used.{Used}
 use Rattle.ideal.specs.State.{Entry, every}
 use Rattle.ideal.specs.Tables.{RowsOf, entries_of}
 use Rattle.ideal.specs.Soundness.{pass, all_zero}
-use Rattle.lists.proofs.Bools.{and_nil}
-use Rattle.ideal.proofs.Kept.{eqb_comm}
+use Rattle.lists.proofs.Bools.{and_nil, and_assoc}
 use Rattle.soundness.specs.Tests.{differ_before, rows_sound, bytes_and_rows, table_sound}
 
 module _ {Row Key : Type 0} (t : RowsOf Row Key) (right : Row → Bool) (same : Entry Key → Entry Key → Bool) (rows : List Row)
-    (values : List ℕ) (used : Used) (few : used.rows ≤ 64) (fits : used.bytes ≤ 4096) where
-  -- a byte past the end isn't zero
-  pub bytes_left : all_zero (drop used.bytes values) ≡ false → false ≡ table_sound t right same rows values used
-  unfolding table_sound bytes_and_rows pass
-  bytes_left z = rw (le-leb _ _ few, le-leb _ _ fits, z)
+    (values : List ℕ) (used : Used) where
+  pub too_many_rows : 64 < used.rows → table_sound t right same rows values used ≡ false
+  unfolding table_sound pass
+  too_many_rows h = rw (lt-leb _ _ h)
 
-  module _ (blank : every t.is_blank (drop used.rows rows) ≡ true) (zero : all_zero (drop used.bytes values) ≡ true) where
-    pub used_rows : table_sound t right same rows values used
-        ≡ rows_sound t right used.bytes 0 (take used.rows rows) && differ_before same [] (entries_of t values (take used.rows rows))
+  module _ (few : used.rows ≤ 64) where
+    pub too_many_bytes : 4096 < used.bytes → table_sound t right same rows values used ≡ false
+    unfolding table_sound pass
+    too_many_bytes h = rw (le-leb _ _ few, lt-leb _ _ h)
+
+    pub parts : used.bytes ≤ 4096 → every t.is_blank (drop used.rows rows) ≡ true
+        → table_sound t right same rows values used
+        ≡ all_zero (take (length values - used.bytes) (drop used.bytes values))
+        && (rows_sound t right used.bytes 0 (take used.rows rows) && differ_before same [] (entries_of t values (take used.rows rows)))
     unfolding table_sound bytes_and_rows pass
-    used_rows = rw (le-leb _ _ few, le-leb _ _ fits, zero, blank, and_nil (rows_sound t right used.bytes 0 (take used.rows rows)), and_nil (differ_before same [] (entries_of t values (take used.rows rows))))
-
-    pub none_used : used.rows ≡ 0 → eqb used.bytes 0 ≡ table_sound t right same rows values used
-    unfolding rows_sound differ_before entries_of
-    none_used e = rw (used_rows, e, and_nil (eqb 0 used.bytes)) (eqb_comm used.bytes 0)
+    parts fits blank =
+        let all = rows_sound t right used.bytes 0 (take used.rows rows) in
+        let apart = differ_before same [] (entries_of t values (take used.rows rows)) in
+        rw (le-leb _ _ few, le-leb _ _ fits, blank, and_nil all, and_nil apart, to_end values used.bytes)
+        (and_assoc (all_zero (drop used.bytes values)) all apart)

@@ -1,12 +1,12 @@
 -- Entries compared with those before them, as the code does, and with those after them, as the definition does. Assumes nothing.
-use Prim.Native.Nat.{ℕ, zero, suc, ◌+◌, ◌≤◌, ◌<◌}
+use Prim.Native.Nat.{ℕ, ◌+◌, ◌<◌}
 use mathlib.Core.Path.{◌≡◌, refl, sym, ap, ◌∙◌}
 use mathlib.Core.Bool.{Bool, true, false, not, ◌&&◌, ◌||◌}
 use mathlib.Core.List.{List, [], ◌∷◌, ◌++◌}
 use native.Mathlib.Omega.{arith}
 use native.Mathlib.Numerals.{add-one}
 use lib.ListN.{length, get_or, take, drop}
-use lib.Seq.{take-suc}
+use lib.Seq.{take-suc, drop-cons}
 use borrow.Author.Tests.{eqb-true}
 use Rattle.fnv.specs.Fnv.{tag_of}
 use Rattle.ideal.specs.State.{Entry, Logged, Escrowed, any, every}
@@ -18,7 +18,6 @@ use Rattle.ideal.proofs.Facts.{every_both}
 use Rattle.ideal.proofs.Kept.{eqb_comm, same_comm}
 use Rattle.lists.proofs.Lists.{any_append, any_one}
 use Rattle.pairs.proofs.Pairs.{pair_logged}
-use Rattle.lists.proofs.Lists.{one_on}
 use Rattle.soundness.specs.Tests.{differ_before, same_logged}
 
 not_or : (a b : Bool) → not (a || b) ≡ not a && not b
@@ -105,23 +104,17 @@ module _ {Row Key : Type 0} (t : RowsOf Row Key) (same : Entry Key → Entry Key
   entries_more [] r = refl
   entries_more (q ∷ rs) r = ap (λ l. entry_of t values q ∷ l) (entries_more rs r)
 
-  pub differ_step : (rows : List Row) (n i : ℕ) → i < n → n ≤ length rows
-      → differ_before same (entries_of t values (take i rows)) (entries_of t values (drop i (take n rows)))
+  pub differ_step : (rows : List Row) (i : ℕ) → i < length rows
+      → differ_before same (entries_of t values (take i rows)) (entries_of t values (drop i rows))
       ≡ not (any (same (entry_of t values (get_or rows i t.blank))) (entries_of t values (take i rows)))
-      && differ_before same (entries_of t values (take (i + 1) rows)) (entries_of t values (drop (i + 1) (take n rows)))
+      && differ_before same (entries_of t values (take (i + 1) rows)) (entries_of t values (drop (i + 1) rows))
   unfolding differ_before entries_of
-  differ_step rows n i p q =
-      rw (
-        one_on rows n i t.blank p q,
-        add-one i,
-        take-suc rows i t.blank (omega arith),
-        entries_more (take i rows) (get_or rows i t.blank),
-      )
+  differ_step rows i h =
+      rw (drop-cons rows i t.blank h, add-one i, take-suc rows i t.blank h, entries_more (take i rows) (get_or rows i t.blank))
 
   -- one row or none has none to differ from
-  pub few_differ : (rows : List Row) (n : ℕ) → n < 2 → differ_before same [] (entries_of t values (take n rows)) ≡ true
+  pub few_differ : (rows : List Row) → length rows < 2 → differ_before same [] (entries_of t values rows) ≡ true
   unfolding differ_before entries_of any
-  few_differ rows zero h = refl
-  few_differ [] (suc zero) h = refl
-  few_differ (r ∷ rows) (suc zero) h = refl
-  few_differ rows (suc (suc n)) h = absurd (omega arith)
+  few_differ [] h = refl
+  few_differ (r ∷ []) h = refl
+  few_differ (r ∷ q ∷ rows) h = absurd (omega arith)

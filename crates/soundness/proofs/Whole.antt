@@ -17,8 +17,6 @@ use Rattle.ideal.specs.Soundness.{pass, tables_sized, sizes_right, running_taken
 use Rattle.lists.proofs.Bools.{and_left, and_right, and_true}
 use Rattle.ideal.proofs.Table.{Stands}
 use Rattle.ideal.proofs.Facts.{Facts, facts, facts_sound, every_both}
-use Rattle.state.specs.declared.LogTable.{LogTable}
-use Rattle.state.specs.declared.EscrowTable.{EscrowTable}
 use Rattle.soundness.specs.Parts.{Counted, Lent}
 use Rattle.soundness.specs.Tests.{places_sound, differ_before, rows_sound, bytes_and_rows, table_sound, log_row_right, same_logged, log_sound, escrow_row_right, escrow_sound}
 use Rattle.soundness.proofs.Rows.{every_entry, chain_within, rows_clauses}
@@ -106,14 +104,14 @@ escrow_each rs =
 
 -- ---- the whole box
 
-module _ (b : BoxRecord) (log : LogTable) (escrow : EscrowTable) (heaps log_values escrow_values : List ℕ)
+module _ (b : BoxRecord) (log : List LogRow) (escrow : List EscrowRow) (heaps log_values escrow_values : List ℕ)
     (counted : Counted b log escrow) (lent : Lent heaps log_values escrow_values) where
   parts : Bool
-  parts = places_sound b heaps && (log_sound log.rows log_values b.log && escrow_sound escrow.rows escrow_values b.escrow)
+  parts = places_sound b heaps && (log_sound log log_values b.log && escrow_sound escrow escrow_values b.escrow)
 
   -- soundness says nothing of shared memory
   t : Tables
-  t = lent_tables b log.rows escrow.rows heaps (replicate 1024 0) log_values escrow_values
+  t = lent_tables b log escrow heaps (replicate 1024 0) log_values escrow_values
 
   parts_facts : parts ≡ true → Facts t
   unfolding parts t places_sound log_sound escrow_sound state_of pass
@@ -122,10 +120,10 @@ module _ (b : BoxRecord) (log : LogTable) (escrow : EscrowTable) (heaps log_valu
       let p₁ = and_right (running_taken b) _ p in
       let p₂ = and_right (eqb b.taken (taken_map b.identities)) _ p₁ in
       let h₁ = and_right (places_sound b heaps) _ h in
-      let l = table_facts log_table (log_row_right log_values) same_logged log.rows log_values b.log counted.log_rows lent.log_bytes (and_left (log_sound log.rows log_values b.log) _ h₁) in
-      let e = table_facts escrow_table escrow_row_right same_handle escrow.rows escrow_values b.escrow counted.escrow_rows lent.escrow_bytes (and_right (log_sound log.rows log_values b.log) _ h₁) in
-      let log_rows = take b.log.rows log.rows in
-      let escrow_rows = take b.escrow.rows escrow.rows in
+      let l = table_facts log_table (log_row_right log_values) same_logged log log_values b.log counted.log_rows lent.log_bytes (and_left (log_sound log log_values b.log) _ h₁) in
+      let e = table_facts escrow_table escrow_row_right same_handle escrow escrow_values b.escrow counted.escrow_rows lent.escrow_bytes (and_right (log_sound log log_values b.log) _ h₁) in
+      let log_rows = take b.log.rows log in
+      let escrow_rows = take b.escrow.rows escrow in
       let li = sym (log_each log_values log_rows b.log.bytes (omega (arith, l.stands.fits, lent.log_bytes)) l.stands.chain) ∙ l.each in
       let ei = sym (escrow_each escrow_rows) ∙ e.each in
       let right = and_right (every has_identities escrow_rows) _ ei in
@@ -153,10 +151,10 @@ module _ (b : BoxRecord) (log : LogTable) (escrow : EscrowTable) (heaps log_valu
   facts_parts : Facts t → parts ≡ true
   unfolding parts t places_sound log_sound escrow_sound state_of pass
   facts_parts f =
-      let log_rows = take b.log.rows log.rows in
-      let escrow_rows = take b.escrow.rows escrow.rows in
+      let log_rows = take b.log.rows log in
+      let escrow_rows = take b.escrow.rows escrow in
       let l =
-      facts_table log_table (log_row_right log_values) same_logged log.rows log_values b.log
+      facts_table log_table (log_row_right log_values) same_logged log log_values b.log
       (record {
         stands = f.log;
         short_rows = f.log_short;
@@ -166,7 +164,7 @@ module _ (b : BoxRecord) (log : LogTable) (escrow : EscrowTable) (heaps log_valu
         apart = pairs_differ _ f.tags ∙ f.pairs_differ;
       }) in
       let e =
-      facts_table escrow_table escrow_row_right same_handle escrow.rows escrow_values b.escrow
+      facts_table escrow_table escrow_row_right same_handle escrow escrow_values b.escrow
       (record {
         stands = f.escrow;
         short_rows = f.escrow_short;
@@ -193,7 +191,7 @@ module _ (b : BoxRecord) (log : LogTable) (escrow : EscrowTable) (heaps log_valu
       (λ h. facts_parts (facts t 1024 (record { sizes = sizes; box = h })))
 
   pub sound_parts : (shared : List ℕ)
-      → places_sound b heaps && (log_sound log.rows log_values b.log && escrow_sound escrow.rows escrow_values b.escrow)
-      ≡ sound (lent_tables b log.rows escrow.rows heaps shared log_values escrow_values)
+      → places_sound b heaps && (log_sound log log_values b.log && escrow_sound escrow escrow_values b.escrow)
+      ≡ sound (lent_tables b log escrow heaps shared log_values escrow_values)
   unfolding parts t sound sound_tests state_of
   sound_parts shared = parts_sound

@@ -2,10 +2,10 @@
 
 #![tactic(auto)]
 
-ghost use Rattle.std.specs.Prelude.{◌≡◌, cond, not, ◌&&◌, ◌||◌, eqb, ltb, length};
+ghost use Rattle.std.specs.Prelude.{◌≡◌, ◌&&◌, ◌||◌, eqb, ltb, length};
 ghost use Rattle.ideal.specs.Tables.{taken_map, chunks};
 ghost use Rattle.record.specs.Layout.{stands};
-ghost use Rattle.ideal.specs.Soundness.{all_zero, empty_heaps_zero};
+ghost use Rattle.ideal.specs.Soundness.{empty_heaps_zero};
 ghost use Rattle.soundness.specs.Tests.{places_sound};
 
 use buffers::all_zero;
@@ -16,20 +16,7 @@ use ideal::{BoxRecord, HEAP};
 fn running_taken(running: u8, taken: u16) -> bool
     ensures { result ≡ (eqb running 16 || (ltb running 16 && stands taken running)) }
 {
-    if running == 16 {
-        return true;
-    }
-    if running > 16 {
-        return false;
-    }
-    (taken >> running) & 1 == 1
-}
-
-// The bit of a place with this identity.
-fn taken_bit(identity: u64) -> u16
-    ensures { result ≡ cond (eqb identity 0) 0 1 }
-{
-    if identity == 0 { 0 } else { 1 }
+    running == 16 || running < 16 && (taken >> running) & 1 == 1
 }
 
 // The map of the places that have an identity, from the highest place down.
@@ -37,50 +24,36 @@ fn taken_map(identities: [u64; 16]) -> u16
     ensures { result ≡ taken_map identities }
 {
     let mut map: u16 = 0;
-    let mut i: usize = 16;
-    while i > 0 {
-        i -= 1;
-        map = map * 2 + taken_bit(identities[i]);
+    for identity in identities.iter().rev() {
+        map = map * 2 + u16::from(*identity != 0);
     }
     map
 }
 
-// Whether a place is taken, or its heap all zeros.
-fn heap_sound(identity: u64, heap: &[u8]) -> bool
-    ensures { result ≡ (not (eqb identity 0) || all_zero heap.now) }
-{
-    if identity != 0 {
-        return true;
-    }
-    all_zero(heap)
-}
-
+// Whether each place is taken, or its heap all zeros. By ranges: chunks divides, as the compiler reads it, and the soundness
+// test must not (request P4).
+#[tactic(auto, using(soundness::proofs::MapAndHeaps::heap_step, soundness::proofs::MapAndHeaps::heaps_ended))]
 fn heaps_sound(identities: [u64; 16], heaps: &[u8]) -> bool
     requires { length heaps.now ≡ 4096 }
     ensures { result ≡ empty_heaps_zero identities (chunks 16 heaps.now) }
 {
-    let mut i: usize = 0;
-    while i < 16 {
+    for (i, identity) in identities.iter().enumerate() {
         let start = HEAP * i;
         let end = start + HEAP;
-        if !heap_sound(identities[i], &heaps[start..end]) {
+        if *identity == 0 && !all_zero(&heaps[start..end]) {
             return false;
         }
-        i += 1;
     }
     true
 }
 
+#[tactic(auto, using(crate::proofs::Map::by_map), unfolding(soundness::specs::Tests::places_sound, ideal::specs::Soundness::pass))]
 pub fn places_sound(held: BoxRecord, heaps: &[u8]) -> bool
     requires { length heaps.now ≡ 4096 }
     ensures { result ≡ places_sound held heaps.now }
 {
     let identities = held.identities;
-    if held.taken != taken_map(identities) {
-        return false;
-    }
-    if !running_taken(held.running, held.taken) {
-        return false;
-    }
-    heaps_sound(identities, heaps)
+    held.taken == taken_map(identities)
+        && running_taken(held.running, held.taken)
+        && heaps_sound(identities, heaps)
 }

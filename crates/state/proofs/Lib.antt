@@ -1,7 +1,8 @@
 pub mod Edited
 pub mod Lowered
+pub mod Numbers
+pub mod Parts
 pub mod Rooms
 pub mod Settled
-pub mod Parts
 pub mod Showing
 pub mod Stores

@@ -5,12 +5,14 @@ use mathlib.Core.Bool.{false}
 use mathlib.Core.List.{List}
 use native.Mathlib.Omega.{arith}
 use lib.Dec.{eqb}
-use lib.ListN.{length}
+use lib.ListN.{length, take, length-take}
+use lib.Seq.{get_or-take}
 use borrow.Author.Tests.{eqb-false, ltb-false}
 use Rattle.ideal.specs.declared.Used.{Used}
 use Rattle.ideal.specs.State.{part, own_part, heap_at}
 use Rattle.ideal.specs.Step.{beyond}
 use Rattle.ideal.specs.Tables.{RowsOf, Tables, tables, state_of}
+use Rattle.ideal.specs.Fit.{RowsFit}
 use Rattle.ideal.specs.Valid.{Valid}
 use Rattle.ideal.proofs.Table.{Stands, part_length}
 use Rattle.ideal.proofs.Fit.{rows_fit}
@@ -22,6 +24,13 @@ pub table_fits : {Row Key : Type 0} (t : RowsOf Row Key) {rows : List Row} {valu
     → TableFits t used rows values
 table_fits t {rows} {values} {used} s =
     record { few = s.few; size = s.value_count; fit = rows_fit t rows values used s }
+
+-- the used rows by themselves lie within the value bytes
+pub used_fit : {Row Key : Type 0} (t : RowsOf Row Key) (used : Used) (rows : List Row) (values : List ℕ) → TableFits t used rows values
+    → RowsFit t (take used.rows rows) (length (take used.rows rows)) (length values)
+unfolding RowsFit
+used_fit t used rows values f k l =
+    let h : k < used.rows = omega (arith, simp length-take at l) in rw get_or-take (f.fit k h)
 
 -- a part of the running place's heap
 pub record HeapFits (running offset size : ℕ) : Type 0 where

@@ -63,12 +63,12 @@ on_escrow t x = changed x.change t.log_rows t.escrow_rows t.heaps t.shared t.log
 module _ (b : BoxRecord) (escrow : List EscrowRow) (values v : List ℕ) where
   pub log_edits : (k : LogKey) → b.log.rows < 64 → let c = (more log_store b values k v).change in EditsBy b escrow c.held c.edits
   unfolding more
-  log_edits k h = record { log = one_put _ _ _ (length v) _ refl h; escrow = counted (none_put _ _ _ refl) refl }
+  log_edits k h = record { log = one_put _ _ (length v) refl h; escrow = counted (none_put _ _ refl) tt }
 
   pub escrow_edits : (k : EscrowKey) → b.escrow.rows < 64
       → let c = (more escrow_store b values k v).change in EditsBy b escrow c.held c.edits
   unfolding more
-  escrow_edits k h = record { log = none_put _ _ _ refl; escrow = counted (one_put _ _ _ (length v) _ refl h) refl }
+  escrow_edits k h = record { log = none_put _ _ refl; escrow = counted (one_put _ _ (length v) refl h) refl }
 
 module _ (s : State) where
   pub log_added : (e : Logged) → Room (tables s).box.log (length e.value)

@@ -1,5 +1,5 @@
 -- What a call makes of the tables: a row put into one of them at an index, in the escrow with the first bytes of the rows after it lowered, or nothing.
-use Rattle.std.specs.Prelude.{ℕ, ◌+◌, ◌-◌, ◌<◌, ◌≡◌, Bool, true, false, cond, List, ◌++◌, map, length, get_or, set, take, drop, ltb}
+use Rattle.std.specs.Prelude.{ℕ, ◌+◌, ◌-◌, ◌<◌, ◌≡◌, List, ◌++◌, map, length, get_or, set, take, drop, ltb, Option, Some, None, IfSome, is_some, option_map}
 use Rattle.std.proofs.lemmas.List.Edits.{sets}
 use Rattle.ideal.specs.declared.BoxRecord.{BoxRecord}
 use Rattle.ideal.specs.declared.Used.{Used}
@@ -8,8 +8,6 @@ use Rattle.ideal.specs.declared.EscrowRow.{EscrowRow}
 use Rattle.ideal.specs.State.{LogKey, EscrowKey}
 use Rattle.ideal.specs.Tables.{RowsOf, Tables, log_table, escrow_table, lent_tables}
 use Rattle.ideal.specs.OneCall.{spent_row}
-use Rattle.state.specs.declared.LogTable.{LogTable}
-use Rattle.state.specs.declared.EscrowTable.{EscrowTable}
 use Rattle.state.specs.declared.Answer.{Answer}
 use Rattle.state.specs.declared.LogEdit.{LogEdit}
 use Rattle.state.specs.declared.EscrowEdit.{EscrowEdit}
@@ -18,10 +16,6 @@ use Rattle.state.specs.declared.Change.{Change}
 use Rattle.state.specs.Answers.{refused_with, accepted_with, settled}
 
 -- ---- the rows after an edit
-
--- a row put at an index, or none
-abbrev pub with_row : {Row : Type 0} → (put : Bool) → (at : ℕ) → Row → List Row → List Row
-with_row put at row rows = cond put (set rows at row) rows
 
 module _ {Row Key : Type 0} (t : RowsOf Row Key) where
   -- the first byte falls by n, to 0 at most: a blank row stays blank
@@ -32,36 +26,29 @@ module _ {Row Key : Type 0} (t : RowsOf Row Key) where
   unfoldable pub lowered_from : (at n : ℕ) → List Row → List Row
   lowered_from at n rows = take at rows ++ map (lowered n) (drop at rows)
 
-  -- a row put at an index, and the rows after it lowered; or none
-  abbrev pub edited : (put : Bool) → (at : ℕ) → Row → (fall : ℕ) → List Row → List Row
-  edited put at row fall rows = cond put (lowered_from (at + 1) fall (set rows at row)) rows
+-- a row put, or none
+abbrev pub log_edited : Option LogEdit → List LogRow → List LogRow
+log_edited None rows = rows
+log_edited (Some e) rows = set rows e.at e.row
 
-abbrev pub log_edited : LogEdit → List LogRow → List LogRow
-log_edited e rows = with_row e.put e.at e.row rows
+-- a row put, and those after it lowered; or none
+abbrev pub escrow_edited : Option EscrowEdit → List EscrowRow → List EscrowRow
+escrow_edited None rows = rows
+escrow_edited (Some e) rows = lowered_from escrow_table (e.at + 1) e.fall (set rows e.at e.row)
 
-abbrev pub escrow_edited : EscrowEdit → List EscrowRow → List EscrowRow
-escrow_edited e rows = edited escrow_table e.put e.at e.row e.fall rows
+-- where a row is put
+abbrev pub log_place : Option LogEdit → Option ℕ
+log_place e = option_map (λ x. x.at) e
 
-abbrev pub log_with : LogEdit → LogTable → LogTable
-log_with e log = record { rows = log_edited e log.rows }
-
-abbrev pub escrow_with : EscrowEdit → EscrowTable → EscrowTable
-escrow_with e escrow = record { rows = escrow_edited e escrow.rows }
+abbrev pub escrow_place : Option EscrowEdit → Option ℕ
+escrow_place e = option_map (λ x. x.at) e
 
 -- it is put at one of n rows
-abbrev pub Fits : (put : Bool) → (at n : ℕ) → Type 0
-Fits put at n = put ≡ true → at < n
-
--- ---- no edit: a blank row stands for the row
-
-abbrev pub no_log_edit : LogEdit
-no_log_edit = record { put = false; at = 0; row = log_table.blank }
-
-abbrev pub no_escrow_edit : EscrowEdit
-no_escrow_edit = record { put = false; at = 0; row = escrow_table.blank; fall = 0 }
+abbrev pub Fits : (at : Option ℕ) → (n : ℕ) → Type 0
+Fits at n = IfSome at (λ i. i < n)
 
 abbrev pub no_edits : Edits
-no_edits = record { log = no_log_edit; escrow = no_escrow_edit }
+no_edits = record { log = None; escrow = None }
 
 -- the tables are left; the box record is this
 abbrev pub unchanged : BoxRecord → Answer → Change
@@ -69,36 +56,36 @@ unchanged b a = record { held = b; edits = no_edits; answer = a }
 
 -- ---- the edits of a call, by the box records before and after it, and the escrow's rows before it
 
--- a row is put where the used rows are one more, at the first that was not used; else a blank row stands for it
-pub record EditBy {Row : Type 0} (blank : Row) (before after : Used) (put : Bool) (at : ℕ) (row : Row) : Type 0 where
-  pub rises : put ≡ ltb before.rows after.rows
-  pub place : at ≡ cond put before.rows 0
-  pub fits : Fits put at 64
-  pub none : put ≡ false → row ≡ blank
+-- a row is put exactly where the used rows are one more, at the first that was not used
+pub record EditBy (before after : Used) (at : Option ℕ) : Type 0 where
+  pub rises : is_some at ≡ ltb before.rows after.rows
+  pub place : IfSome at (λ i. i ≡ before.rows)
+  pub fits : Fits at 64
 
 -- an edit that puts back the row r, released: first bytes fall by its length
 abbrev pub spending : (at : ℕ) → EscrowRow → EscrowEdit
-spending at r = record { put = true; at = at; row = spent_row r; fall = r.length }
+spending at r = record { at = at; row = spent_row r; fall = r.length }
 
 -- the counts with so many bytes less
 abbrev pub lessened : Used → (n : ℕ) → Used
 lessened used n = record { rows = used.rows; bytes = used.bytes - n }
 
 -- a used row that was not spent is put back, released, and the used bytes fall by its length
-pub record Spends (rows : List EscrowRow) (before after : Used) (e : EscrowEdit) : Type 0 where
-  pub used : e.at < before.rows
-  pub fits : e.at < 64
-  pub unspent : (get_or rows e.at escrow_table.blank).mark ≡ 0
-  pub edit : e ≡ spending e.at (get_or rows e.at escrow_table.blank)
-  pub counts : after ≡ lessened before (get_or rows e.at escrow_table.blank).length
+pub record Spends (rows : List EscrowRow) (before after : Used) (e : Option EscrowEdit) : Type 0 where
+  pub at : ℕ
+  pub used : at < before.rows
+  pub fits : at < 64
+  pub unspent : (get_or rows at escrow_table.blank).mark ≡ 0
+  pub edit : e ≡ Some (spending at (get_or rows at escrow_table.blank))
+  pub counts : after ≡ lessened before (get_or rows at escrow_table.blank).length
 
 -- by the counts, and no first byte falls, or by a release, of the escrow's rows before it
-pub data EscrowEditBy (rows : List EscrowRow) (before after : Used) (e : EscrowEdit) : Type 0 where
-  counted : EditBy escrow_table.blank before after e.put e.at e.row → e.fall ≡ 0 → EscrowEditBy rows before after e
+pub data EscrowEditBy (rows : List EscrowRow) (before after : Used) (e : Option EscrowEdit) : Type 0 where
+  counted : EditBy before after (escrow_place e) → IfSome e (λ x. x.fall ≡ 0) → EscrowEditBy rows before after e
   spends : Spends rows before after e → EscrowEditBy rows before after e
 
 pub record EditsBy (before : BoxRecord) (rows : List EscrowRow) (after : BoxRecord) (e : Edits) : Type 0 where
-  pub log : EditBy log_table.blank before.log after.log e.log.put e.log.at e.log.row
+  pub log : EditBy before.log after.log (log_place e.log)
   pub escrow : EscrowEditBy rows before.escrow after.escrow e.escrow
 
 -- ---- a call on one table
@@ -138,7 +125,7 @@ log_store =
       table = log_table;
       used = λ b. b.log;
       held = λ b u. record { taken = b.taken; running = b.running; identities = b.identities; log = u; escrow = b.escrow };
-      put = λ at row. record { log = record { put = true; at = at; row = row }; escrow = no_escrow_edit };
+      put = λ at row. record { log = Some (record { at = at; row = row }); escrow = None };
       number = λ k. k.tag.0;
     }
 
@@ -148,7 +135,7 @@ escrow_store =
       table = escrow_table;
       used = λ b. b.escrow;
       held = λ b u. record { taken = b.taken; running = b.running; identities = b.identities; log = b.log; escrow = u };
-      put = λ at row. record { log = no_log_edit; escrow = record { put = true; at = at; row = row; fall = 0 } };
+      put = λ at row. record { log = None; escrow = Some (record { at = at; row = row; fall = 0 }) };
       number = λ k. k.handle.0;
     }
 

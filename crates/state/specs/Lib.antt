@@ -2,3 +2,4 @@ pub mod Answers
 pub mod Counts
 pub mod Edits
 pub mod Parts
+pub mod Refusals

@@ -2,11 +2,11 @@
 ghost use Rattle.std.specs.Prelude.{◌≡◌};
 ghost use Rattle.ideal.specs.Tables.{fresh_tables, log_table, escrow_table};
 
-use crate::{EscrowTable, LogTable};
 use fnv::Tag;
 use ideal::{BoxRecord, EscrowRow, LogRow, Used};
 use record::Handle;
 
+#[tactic(auto, unfolding(ideal::specs::Tables::fresh_tables))]
 pub fn fresh_record() -> BoxRecord
     ensures { result ≡ fresh_tables.box }
 {
@@ -45,18 +45,16 @@ pub fn blank_escrow_row() -> EscrowRow
     }
 }
 
-pub fn fresh_log() -> LogTable
-    ensures { result.rows ≡ fresh_tables.log_rows }
+#[tactic(auto, unfolding(ideal::specs::Tables::fresh_tables))]
+pub fn fresh_log() -> [LogRow; 64]
+    ensures { result ≡ fresh_tables.log_rows }
 {
-    let row = blank_log_row();
-    let rows = [row; 64];
-    LogTable { rows }
+    [blank_log_row(); 64]
 }
 
-pub fn fresh_escrow() -> EscrowTable
-    ensures { result.rows ≡ fresh_tables.escrow_rows }
+#[tactic(auto, unfolding(ideal::specs::Tables::fresh_tables))]
+pub fn fresh_escrow() -> [EscrowRow; 64]
+    ensures { result ≡ fresh_tables.escrow_rows }
 {
-    let row = blank_escrow_row();
-    let rows = [row; 64];
-    EscrowTable { rows }
+    [blank_escrow_row(); 64]
 }

@@ -5,27 +5,19 @@
 mod editing;
 mod fresh;
 mod full;
+mod own;
+mod refusal;
 
 ghost use Rattle.std.specs.Prelude.{◌≡◌};
 ghost use Rattle.state.specs.Answers.{refused_with, accepted_with, shown_with};
 ghost use Rattle.state.specs.Edits.{unchanged};
 
-pub use editing::{
-    escrow_edited, falls_from, log_edited, lower_escrow_row, no_escrow_edit, no_log_edit, unedited,
-};
+pub use editing::unedited;
 pub use fresh::{fresh_escrow, fresh_log, fresh_record};
-pub use full::is_full;
+pub use full::{is_full, raised};
 use ideal::{BoxRecord, EscrowRow, LogRow};
-
-#[derive(Clone, Copy)]
-pub struct LogTable {
-    pub rows: [LogRow; 64],
-}
-
-#[derive(Clone, Copy)]
-pub struct EscrowTable {
-    pub rows: [EscrowRow; 64],
-}
+pub use own::{heap_part, running_place};
+pub use refusal::{Refusal, answer_of, change_of, shown_of};
 
 // An answer. used is how many bytes of a record were used, 0 where none was read; shown is how many bytes stand at the front
 // of the output buffer.
@@ -38,28 +30,26 @@ pub struct Answer {
     pub shown: u16,
 }
 
-// A row that goes into the log at an index, if put says so. What comes back of a table is this, and not the table: a table
-// by value is moved whole.
+// A row that goes into the log at an index. What comes back of a table is this, and not the table.
 #[derive(Clone, Copy)]
 pub struct LogEdit {
-    pub put: bool,
     pub at: usize,
     pub row: LogRow,
 }
 
-// A row that goes into the escrow, and by how much the first bytes of the rows after it fall.
+// A row that goes into the escrow at an index, and by how much the first bytes of the rows after it fall.
 #[derive(Clone, Copy)]
 pub struct EscrowEdit {
-    pub put: bool,
     pub at: usize,
     pub row: EscrowRow,
     pub fall: u16,
 }
 
+// The row that a call puts into a table, if it puts one there.
 #[derive(Clone, Copy)]
 pub struct Edits {
-    pub log: LogEdit,
-    pub escrow: EscrowEdit,
+    pub log: Option<LogEdit>,
+    pub escrow: Option<EscrowEdit>,
 }
 
 // What a call makes of the box record and of the tables, and its answer.

@@ -1,5 +1,8 @@
 -- What turns of the code leave and give, as turns of the definition: the records of a script, as many as fit.
 use Rattle.std.specs.Prelude.{ℕ, suc, ◌-◌, ◌≤◌, ◌<◌, ◌≡◌, cond, List, [], ◌∷◌, ◌++◌, map, length, take, drop, ltb}
+use Rattle.ideal.specs.declared.BoxRecord.{BoxRecord}
+use Rattle.ideal.specs.declared.EscrowRow.{EscrowRow}
+use Rattle.ideal.specs.declared.LogRow.{LogRow}
 use Rattle.ideal.specs.declared.Profile.{Profile}
 use Rattle.ideal.specs.Step.{Answer as StepAnswer}
 use Rattle.ideal.specs.Tables.{Tables, flat}
@@ -7,6 +10,8 @@ use Rattle.ideal.specs.Box.{Element, given, Result, element_at, tables_from, ans
 use Rattle.ideal.specs.LevelOne.{box_of}
 use Rattle.ideal.specs.Layouts.{Sound}
 use Rattle.state.specs.declared.Answer.{Answer}
+use Rattle.state.specs.declared.Edits.{Edits}
+use Rattle.state.specs.Edits.{EditsBy, log_edited, escrow_edited}
 use Rattle.sheet.specs.Records.{left_after, records_of}
 use Rattle.sheet.specs.Sheet.{line, lines_of}
 use Rattle.sheet.specs.Stored.{AtFront}
@@ -71,6 +76,11 @@ TurnsGoOn = (p : Profile) (room : ℕ) (t : Tables) (rest : List ℕ) → Sound 
     → GoesOn (turns (box_of p) room t rest) rest
 
 -- ---- the code's
+
+-- the rows are those before with one row put, by the counts, or by a release; or they are left
+abbrev pub Puts : BoxRecord → List LogRow → List EscrowRow → BoxRecord → List LogRow → List EscrowRow → Type 0
+Puts before log escrow after log_after escrow_after =
+    (e : Edits) × EditsBy before escrow after e × (log_after ≡ log_edited e.log log) × (escrow_after ≡ escrow_edited e.escrow escrow)
 
 -- The code leaves these tables, is done with so many bytes of the rest, and has written so many bytes at the front of a
 -- buffer: it is this turn, and the bytes beyond its text are unaltered.

@@ -7,35 +7,25 @@ ghost use Rattle.ideal.specs.Box.{given, output_after};
 ghost use Rattle.ideal.specs.LevelOne.{box_of};
 ghost use Rattle.ideal.specs.Layouts.{Sound};
 ghost use Rattle.ideal.specs.Tables.{lent_tables};
-ghost use Rattle.state.specs.Edits.{log_edited, escrow_edited, EditsBy};
+ghost use Rattle.calls.specs.Buffers.{tables_in, SoundIn, SameBuffers};
 ghost use Rattle.sheet.specs.Records.{last_code};
 ghost use Rattle.sheet.specs.Sheet.{line};
 ghost use Rattle.sheet.specs.Stored.{AtFront};
-ghost use Rattle.turns.specs.Next.{answer_in, line_most, TurnMade, turn, turns};
+ghost use Rattle.turns.specs.Next.{answer_in, line_most, Puts, TurnMade, turn, turns};
 
-use ideal::{BoxRecord, Profile};
+use calls::Buffers;
+use ideal::{BoxRecord, EscrowRow, LogRow, Profile};
+use rows::{edit_escrow, put_log_row};
 use sheet::{is_last, write_line};
-use state::{Answer, Edits, EscrowTable, LogTable, escrow_edited, log_edited};
+use state::Answer;
 
 // Any line fits in so many bytes.
 const LINE: usize = 2113;
 
-// What a turn gives: the box record, the row that the call puts, how many bytes of the rest are done with, and how many bytes
-// the line has.
-#[derive(Clone, Copy)]
-pub struct NextLine {
-    pub held: BoxRecord,
-    pub edits: Edits,
-    pub done: usize,
-    pub size: usize,
-}
-
-// What turns give, one after another: the same with whole tables.
+// What one turn or more give: the box record, how many bytes of the rest are done with, and how many bytes the lines have.
 #[derive(Clone, Copy)]
 pub struct Lines {
     pub held: BoxRecord,
-    pub log: LogTable,
-    pub escrow: EscrowTable,
     pub done: usize,
     pub size: usize,
 }
@@ -60,89 +50,60 @@ fn bytes_done(code: u8, used: usize, left: usize) -> usize
 }
 
 // The record at the front of rest on a sound box, and its line at the front of out. A line has at most 2,113 bytes. Its
-// shown bytes go through output; what that holds beforehand alters no line.
+// shown bytes go through the output buffer; what that holds beforehand alters no line.
 pub fn next_line(
     profile: Profile,
     held: BoxRecord,
-    log: LogTable,
-    escrow: EscrowTable,
-    heaps: &mut [u8],
-    shared: &mut [u8],
-    log_values: &mut [u8],
-    escrow_values: &mut [u8],
-    output: &mut [u8],
+    log: &mut [LogRow],
+    escrow: &mut [EscrowRow],
+    lent: &mut Buffers,
     rest: &[u8],
     out: &mut [u8],
-) -> NextLine
-    requires { Sound (lent_tables held log.rows escrow.rows heaps.old shared.old log_values.old escrow_values.old) (length output.old)
-        × (line_most ≤ length out.old) }
+) -> Lines
+    requires { SoundIn held log.old escrow.old lent.old × (line_most ≤ length out.old) }
+    ensures same_buffers { SameBuffers lent.old lent.new }
     ensures turn_made { TurnMade
-        (turn (box_of profile)
-        (lent_tables held log.rows escrow.rows heaps.old shared.old log_values.old escrow_values.old)
-        rest.now)
-        (lent_tables result.held (log_edited result.edits.log log.rows) (escrow_edited result.edits.escrow escrow.rows) heaps.new shared.new
-        log_values.new escrow_values.new)
+        (turn (box_of profile) (tables_in held log.old escrow.old lent.old) rest.now) (tables_in result.held log.new escrow.new lent.new)
         rest.now result.done out.old out.new result.size }
-    ensures edits_by { EditsBy held escrow.rows result.held result.edits }
-    ensures output_after { output.new
-        ≡ output_after
-        (box_of profile
-        (lent_tables held log.rows escrow.rows heaps.old shared.old log_values.old escrow_values.old)
-        (given rest.now 1024)).answer
-        output.old }
+    ensures puts { Puts held log.old escrow.old result.held log.new escrow.new }
+    ensures output_after { lent.new.output.now
+        ≡ output_after (box_of profile (tables_in held log.old escrow.old lent.old) (given rest.now 1024)).answer lent.old.output.now }
 {
-    let change = calls::call_sound(
-        profile,
-        held,
-        log,
-        escrow,
-        heaps,
-        shared,
-        log_values,
-        escrow_values,
-        output,
-        rest,
-    );
+    let change = calls::call_sound(profile, held, log, escrow, lent, rest);
+    put_log_row(log, change.edits.log);
+    edit_escrow(escrow, change.edits.escrow);
     let answer = change.answer;
+    let output = &mut *lent.output;
     let size = write_answer(answer, output, out);
-    let held = change.held;
-    let edits = change.edits;
     let done = bytes_done(answer.code, answer.used, rest.len());
-    NextLine {
-        held,
-        edits,
+    Lines {
+        held: change.held,
         done,
         size,
     }
 }
 
 // Lines at the front of out, a line a record, until no input is left, after a line that is the last, or where the next
-// line might not fit.
-pub fn next_lines(
+// line might not fit. Shown bytes go through the output buffer.
+fn lines_lent(
     profile: Profile,
     mut held: BoxRecord,
-    mut log: LogTable,
-    mut escrow: EscrowTable,
-    heaps: &mut [u8],
-    shared: &mut [u8],
-    log_values: &mut [u8],
-    escrow_values: &mut [u8],
+    log: &mut [LogRow],
+    escrow: &mut [EscrowRow],
+    lent: &mut Buffers,
     rest: &[u8],
     out: &mut [u8],
 ) -> Lines
-    requires { Sound (lent_tables held log.rows escrow.rows heaps.old shared.old log_values.old escrow_values.old) 1024
-        × (line_most ≤ length out.old) }
-    ensures { TurnMade
-        (turns (box_of profile) (length out.old)
-        (lent_tables held log.rows escrow.rows heaps.old shared.old log_values.old escrow_values.old)
-        rest.now)
-        (lent_tables result.held result.log.rows result.escrow.rows heaps.new shared.new log_values.new escrow_values.new)
+    requires { SoundIn held log.old escrow.old lent.old × (line_most ≤ length out.old) }
+    ensures same_buffers { SameBuffers lent.old lent.new }
+    ensures turn_made { TurnMade
+        (turns (box_of profile) (length out.old) (tables_in held log.old escrow.old lent.old) rest.now)
+        (tables_in result.held log.new escrow.new lent.new)
         rest.now result.done out.old out.new result.size }
 {
-    // one for all records, since to clear it for each takes time
-    let mut output = [0u8; 1024];
-    let mut done: usize = 0;
-    let mut size: usize = 0;
+    // By `while`: a turn goes on by as many bytes as its record has.
+    let mut done = 0;
+    let mut size = 0;
     while done < rest.len() {
         if out.len() - size < LINE {
             break;
@@ -152,26 +113,46 @@ pub fn next_lines(
             held,
             log,
             escrow,
-            heaps,
-            shared,
-            log_values,
-            escrow_values,
-            &mut output,
+            lent,
             &rest[done..],
             &mut out[size..],
         );
-        let edits = next.edits;
-        log = log_edited(log, edits.log);
-        escrow = escrow_edited(escrow, edits.escrow);
         held = next.held;
         done += next.done;
         size += next.size;
     }
-    Lines {
-        held,
-        log,
-        escrow,
-        done,
-        size,
-    }
+    Lines { held, done, size }
+}
+
+// The same, with an output buffer of its own: one for all records, since to clear it for each takes time.
+pub fn next_lines(
+    profile: Profile,
+    held: BoxRecord,
+    log: &mut [LogRow],
+    escrow: &mut [EscrowRow],
+    heaps: &mut [u8],
+    shared: &mut [u8],
+    log_values: &mut [u8],
+    escrow_values: &mut [u8],
+    rest: &[u8],
+    out: &mut [u8],
+) -> Lines
+    requires { Sound (lent_tables held log.old escrow.old heaps.old shared.old log_values.old escrow_values.old) 1024
+        × (line_most ≤ length out.old) }
+    ensures { TurnMade
+        (turns (box_of profile) (length out.old)
+        (lent_tables held log.old escrow.old heaps.old shared.old log_values.old escrow_values.old)
+        rest.now)
+        (lent_tables result.held log.new escrow.new heaps.new shared.new log_values.new escrow_values.new)
+        rest.now result.done out.old out.new result.size }
+{
+    let mut output = [0u8; 1024];
+    let mut lent = Buffers {
+        heaps,
+        shared,
+        log_values,
+        escrow_values,
+        output: &mut output,
+    };
+    lines_lent(profile, held, log, escrow, &mut lent, rest, out)
 }

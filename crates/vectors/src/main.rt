@@ -14,11 +14,7 @@ fn line_of(value: &[u8]) -> [u8; 17]
     let mut digits = [0u8; 16];
     io::hex(fnv::hash(value), 16, &mut digits);
     let mut line = [b'\n'; 17];
-    let mut i = 0;
-    while i < 16 {
-        line[i] = digits[i];
-        i += 1;
-    }
+    line[..16].copy_from_slice(&digits);
     line
 }
 

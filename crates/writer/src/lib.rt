@@ -8,23 +8,30 @@ ghost use Rattle.fnv.specs.Fnv.{little};
 ghost use Rattle.record.specs.Layout.{kind_of, gives, map_of, stands};
 ghost use Rattle.record.specs.Write.{only, record_in, too_many, write_on};
 ghost use Rattle.record.specs.Size.{field_size, record_size};
-ghost use Rattle.writer.specs.Results.{wrote_on};
+ghost use Rattle.writer.specs.Results.{wrote_on, unwritten_code};
 
 use buffers::{put, put_number};
-use record::{Fields, LegalMap, has, legal_map};
+use record::{Fields, has, legal_map};
 
-// What the writer answers.
-#[derive(Clone, Copy)]
-pub enum Written {
-    // The record's length.
-    Length(usize),
+// Why the writer writes no record, with document 01's numbers.
+#[derive(Clone, Copy, PartialEq, Eq)]
+pub enum Unwritten {
     // There is no such kind.
-    Unknown,
+    UnknownKind = 2,
     // The buffer is shorter than the record, or the bytes are more than a count of 2 bytes can say.
-    NoRoom,
+    NoRoom = 17,
+}
+
+impl Unwritten {
+    pub fn number(self) -> u8
+        ensures { result ≡ unwritten_code self }
+    {
+        self as u8
+    }
 }
 
 // How many bytes a field of this width takes: none where its bit is down.
+#[tactic(auto, unfolding(record::specs::Size::field_size))]
 fn field_size(map: u8, bit: u8, width: usize) -> usize
     requires { bit < 8 }
     ensures { result ≡ field_size map bit width }
@@ -33,6 +40,7 @@ fn field_size(map: u8, bit: u8, width: usize) -> usize
 }
 
 // A field, where its bit stands; returns where the next one goes.
+#[tactic(auto, using(record::proofs::Sizes::present, record::proofs::Sizes::absent), unfolding(record::specs::Write::only))]
 fn put_field(out: &mut [u8], at: usize, map: u8, bit: u8, width: usize, x: u64) -> usize
     requires { (bit < 8) × (at + field_size map bit width ≤ length out.old) }
     ensures next { result ≡ at + field_size map bit width }
@@ -47,6 +55,7 @@ fn put_field(out: &mut [u8], at: usize, map: u8, bit: u8, width: usize, x: u64) 
 }
 
 // The bytes field, where its bit stands: their count, and then the bytes.
+#[tactic(auto, using(record::proofs::Sizes::present, record::proofs::LittleEndian::length_little, record::proofs::Stores::sets_append), unfolding(record::specs::Write::only))]
 fn put_bytes(out: &mut [u8], at: usize, map: u8, bytes: &[u8])
     requires { at + field_size map 6 (2 + length bytes.now) ≤ length out.old }
     ensures { out.new
@@ -68,6 +77,7 @@ fn put_head(out: &mut [u8], map: u8, kind: u8)
 }
 
 // The whole record of a kind, whose map is `map`.
+#[tactic(auto, unfolding(record::specs::Size::record_size))]
 fn put_record(out: &mut [u8], map: u8, kind: u8, fields: Fields, bytes: &[u8])
     requires { (map_of kind ≡ gives map) × (record_size map (length bytes.now) ≤ length out.old) }
     ensures { out.new ≡ sets out.old 0 (record_in (kind_of kind) fields bytes.now) }
@@ -89,6 +99,7 @@ fn too_many(map: u8, count: usize) -> bool
 }
 
 // The length of a record.
+#[tactic(auto, using(record::proofs::Sizes::small, record::proofs::Sizes::present, record::proofs::Sizes::absent), unfolding(record::specs::Size::record_size))]
 fn record_size(map: u8, count: usize) -> usize
     requires { too_many map count ≡ false }
     ensures { result ≡ record_size map count }
@@ -106,20 +117,24 @@ fn record_size(map: u8, count: usize) -> usize
     }
 }
 
-// The record of a call of this kind, at the front of out. Fields and bytes that the kind's map lacks do not matter.
-pub fn write_call(kind: u8, fields: Fields, bytes: &[u8], out: &mut [u8]) -> Written
+// The record of a call of this kind, at the front of out; its length. Fields and bytes that the kind's map lacks do not matter.
+#[tactic(auto, using(record::proofs::Writing::write_unknown), unfolding(record::specs::Write::refused_write))]
+pub fn write_call(
+    kind: u8,
+    fields: Fields,
+    bytes: &[u8],
+    out: &mut [u8],
+) -> Result<usize, Unwritten>
     ensures { wrote_on result out.new ≡ write_on kind fields bytes.now out.old }
 {
-    let LegalMap::Map(map) = legal_map(kind) else {
-        return Written::Unknown;
-    };
+    let map = legal_map(kind).ok_or(Unwritten::UnknownKind)?;
     if too_many(map, bytes.len()) {
-        return Written::NoRoom;
+        return Err(Unwritten::NoRoom);
     }
     let size = record_size(map, bytes.len());
     if out.len() < size {
-        return Written::NoRoom;
+        return Err(Unwritten::NoRoom);
     }
     put_record(out, map, kind, fields, bytes);
-    Written::Length(size)
+    Ok(size)
 }

@@ -1,14 +1,7 @@
-use Prim.Native.Nat.{◌≤◌, ◌-◌}
-use mathlib.Core.Path.{◌≡◌}
-use mathlib.Core.Bool.{◌&&◌}
-use lib.Dec.{eqb}
-use lib.ListN.{length, drop}
+use Rattle.std.proofs.Common.{◌≡◌, ◌&&◌, eqb, drop}
 use Rattle.lists.specs.Lists.{all_zero}
 use Rattle.buffers.proofs.part_zero.Given as goal
 
 -- the bytes joined so far and the bytes to come are all zero just where the whole is
-abbrev pub invariant-loop-i : goal.invariant-loop-i
-invariant-loop-i l = (l.i ≤ length l.s) × (eqb l.all 0 && all_zero (drop l.i l.s) ≡ all_zero l.s)
-
-abbrev pub decreases-loop-i : goal.decreases-loop-i
-decreases-loop-i l = length l.s - l.i
+abbrev pub invariant-loop-b : goal.invariant-loop-b
+invariant-loop-b l = eqb l.all 0 && all_zero (drop l.b-index l.s) ≡ all_zero l.s

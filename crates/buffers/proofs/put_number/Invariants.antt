@@ -1,14 +1,9 @@
-use Prim.Native.Nat.{◌≤◌, ◌+◌, ◌-◌}
-use mathlib.Core.Path.{◌≡◌}
-use lib.ListN.{length}
-use lib.Seq.{sets}
+use Rattle.std.proofs.Common.{◌≡◌, ◌-◌}
+use Rattle.std.proofs.lemmas.List.Edits.{sets}
 use Rattle.fnv.specs.Fnv.{little}
 use Rattle.buffers.proofs.put_number.Given as goal
 
 -- storing the bytes of what is left gives the whole
-abbrev pub invariant-loop-i : goal.invariant-loop-i
-invariant-loop-i l =
-    (l.i ≤ l.width) × (length l.out ≡ length l.initial.out) × (sets l.out (l.at + l.i) (little (l.width - l.i) l.rest) ≡ sets l.initial.out l.at (little l.width l.x))
-
-abbrev pub decreases-loop-i : goal.decreases-loop-i
-decreases-loop-i l = l.width - l.i
+abbrev pub invariant-loop-b : goal.invariant-loop-b
+invariant-loop-b l =
+    sets l.b-items l.b-index (little (l.width - l.b-index) l.rest) ≡ sets l.initial.b-items 0 (little l.width l.x)

@@ -1,10 +1,7 @@
-use Rattle.std.proofs.Common.{◌≡◌, ◌-◌, ◌≤◌, length, drop}
+use Rattle.std.proofs.Common.{◌≡◌, drop}
 use Rattle.fnv.specs.Fnv.{fnv_from}
 use Rattle.fnv.proofs.fold.Given as goal
 
 -- what is left to fold, from x on, gives the whole
-abbrev pub invariant-loop-i : goal.invariant-loop-i
-invariant-loop-i l = (l.i ≤ length l.s) × (fnv_from l.x (drop l.i l.s) ≡ fnv_from l.h (drop l.from l.s))
-
-abbrev pub decreases-loop-i : goal.decreases-loop-i
-decreases-loop-i l = length l.s - l.i
+abbrev pub invariant-loop-b : goal.invariant-loop-b
+invariant-loop-b l = fnv_from l.x (drop l.b-index l.s) ≡ fnv_from l.h l.s

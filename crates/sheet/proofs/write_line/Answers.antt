@@ -1,28 +1,8 @@
 use native.Mathlib.Omega.{arith}
 use Rattle.ideal.specs.Step.{Answer}
 use Rattle.sheet.specs.Sheet.{bytes_of, line}
-use Rattle.sheet.proofs.Texts.{length_spaced, length_shown, length_line, stored_then, stored_front}
+use Rattle.sheet.proofs.Texts.{length_line, stored_then, stored_front}
 use Rattle.sheet.proofs.write_line.Goals as goal
-
-pub put_number-b-requires : goal.put_number-b-requires
-put_number-b-requires c =
-    let x = c.args in
-    omega (arith, length_spaced x.code)
-
-pub put_number-c-requires : goal.put_number-c-requires
-put_number-c-requires c =
-    let x = c.args in
-    omega (arith, length_spaced x.code, length_spaced x.number)
-
-pub put_shown-d-requires : goal.put_shown-d-requires
-put_shown-d-requires c =
-    let x = c.args in
-    omega (arith, length_spaced x.code, length_spaced x.number, length_spaced x.used)
-
-pub put_byte-requires : goal.put_byte-requires
-put_byte-requires c =
-    let x = c.args in
-    omega (arith, length_spaced x.code, length_spaced x.number, length_spaced x.used, length_shown x.shown.now)
 
 pub returns : goal.returns
 unfolding line bytes_of

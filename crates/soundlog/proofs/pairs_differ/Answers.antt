@@ -1,21 +1,21 @@
-use Prim.Native.Nat.{ℕ, ◌≤◌}
-use mathlib.Core.Bool.{true}
+use Prim.Native.Nat.{ℕ, ◌<◌}
+use mathlib.Core.Bool.{true, false}
 use mathlib.Core.List.{List}
 use mathlib.Core.Path.{◌≡◌, refl, sym, ◌∙◌}
 use native.Mathlib.Omega.{arith}
-use native.Mathlib.Nat.{add-sub_cancel_left}
 use lib.Dec.{eqb}
-use lib.ListN.{length, get_or}
+use lib.ListN.{length, length-take}
+use lib.Seq.{get_or-take}
 use borrow.Author.Tests.{eqb-true}
 use Rattle.ideal.specs.Fit.{RowsFit}
-use Rattle.ideal.specs.Step.{is_logged}
+use Rattle.ideal.specs.Step.{is_logged, logged}
 use Rattle.ideal.specs.Tables.{log_table, entry_of}
 use Rattle.ideal.specs.declared.LogRow.{LogRow}
 use Rattle.lists.proofs.Bools.{and_left, and_right}
 use Rattle.soundness.specs.Tests.{same_logged}
-use Rattle.soundness.proofs.Seen.{slot_of, slot_within, none_seen, seen_more, from_first, unseen, like_later, differ_not, differ_later, differ_all}
+use Rattle.soundness.proofs.Seen.{slot_of, none_seen, seen_more, from_first, like_before, unseen, differ_not, differ_later, differ_all}
 use Rattle.soundlog.proofs.pairs_differ.Goals as goal
-use Rattle.soundlog.proofs.pairs_differ.Goals.{then-seen-slot-eq0, else-seen-slot-eq0}
+use Rattle.soundlog.proofs.pairs_differ.Goals.{else-seen-slot-via-then-seen-slot+else-in_log, else-seen-slot-via-else-seen-slot}
 use Rattle.soundlog.proofs.pairs_differ.Invariants.{number}
 
 agree : (values : List ℕ) (r o : LogRow) → same_logged (entry_of log_table values r) (entry_of log_table values o) ≡ true → number o ≡ number r
@@ -25,73 +25,45 @@ agree values r o y =
     eqb-true (number o) (number r) (and_left tags _ (and_right (eqb o.identity r.identity) _ y))
 
 pub loop-i-init : goal.loop-i-init
-loop-i-init c = (omega arith, none_seen log_table.blank number c.args.rows _ refl, from_first log_table same_logged c.args.values.now c.args.rows c.args.n)
+loop-i-init c =
+    (none_seen log_table.blank number c.args.rows.now _ refl, from_first log_table same_logged c.args.values.now c.args.rows.now)
 
-pub bounds-seen-slot : goal.bounds-seen-slot
-unfolding slot_of
-bounds-seen-slot c = slot_within (number (get_or c.args.rows c.loop-i.i log_table.blank))
-
-pub loop-j-init : goal.loop-j-init
-unfolding slot_of
-loop-j-init c =
-    let a = c.args in
-    let l = c.loop-i in
-    let q : l.i ≤ length a.rows = omega (arith, c.well_formed.0.1.0) in
-    elim c.if-seen-slot-eq0.branch [
-      | then-seen-slot-eq0 w ↦
-          let e : c.if-seen-slot-eq0.j ≡ l.i = w.j-is in
-          (omega arith, rw e (unseen log_table same_logged a.values.now a.rows l.i q number (agree a.values.now) l.seen l.invariant.1 w.if-seen-slot-eq0.true))
-      | else-seen-slot-eq0 w ↦ let e : c.if-seen-slot-eq0.j ≡ 0 = w.j-is in (omega arith, rw e)
-    ]
-
-pub slice_bounds-row_is-end : goal.slice_bounds-row_is-end
+pub value_of-value-requires : goal.value_of-value-requires
 unfolding RowsFit
-slice_bounds-row_is-end c = c.requires.1 c.loop-i.i c.loop-i-test.true
+value_of-value-requires c = c.requires c.loop-i.i c.loop-i-test.true
 
-pub row_is-requires : goal.row_is-requires
+pub in_log-requires : goal.in_log-requires
 unfolding RowsFit
-row_is-requires c = c.requires.1 c.loop-j.j (let h = c.loop-j-test.true in omega arith)
+in_log-requires c =
+    λ k h.
+    let b : k < c.loop-i.i = omega (arith, length-take {A = LogRow}) in
+    rw (get_or-take c.loop-i.i c.args.rows.now k log_table.blank b) (c.requires k (omega arith))
 
-pub returns-then-row_is : goal.returns-then-row_is
-unfolding same_logged
-returns-then-row_is c =
+pub returns-then-in_log : goal.returns-then-in_log
+unfolding same_logged logged
+returns-then-in_log c =
     let a = c.args in
     let l = c.loop-i in
-    let m = c.loop-j in
-    let r = get_or a.rows l.i log_table.blank in
-    let q : a.n ≤ length a.rows = omega (arith, c.well_formed.0.1.0) in
-    let e = rw (add-sub_cancel_left r.first r.length) at c.row_is.ensures in
-    differ_not log_table same_logged a.values.now a.rows a.n l.i m.j q c.loop-i-test.true c.loop-j-test.true (sym e ∙ c.if-row_is.true) m.invariant.1 l.invariant.2
-
-pub loop-j-preserved : goal.loop-j-preserved
-unfolding same_logged
-loop-j-preserved c =
-    let a = c.args in
-    let l = c.loop-i in
-    let m = c.loop-j in
-    let r = get_or a.rows l.i log_table.blank in
-    let q : l.i ≤ length a.rows = omega (arith, c.well_formed.0.1.0) in
-    let e = rw (add-sub_cancel_left r.first r.length) at c.row_is.ensures in
-    (omega arith, like_later log_table same_logged a.values.now a.rows l.i q m.j c.loop-j-test.true (sym e ∙ c.if-row_is.false) m.invariant.1)
-
-pub bounds-seen-slot-in-loop-i : goal.bounds-seen-slot-in-loop-i
-unfolding slot_of
-bounds-seen-slot-in-loop-i c = slot_within (number (get_or c.args.rows c.loop-i.i log_table.blank))
+    differ_not log_table same_logged a.values.now a.rows.now l.i c.loop-i-test.true l.invariant.1 (sym (rw c.value_of-value.ensures at c.in_log.ensures) ∙ c.if-in_log.true)
 
 pub loop-i-preserved : goal.loop-i-preserved
-unfolding slot_of
+unfolding same_logged logged slot_of
 loop-i-preserved c =
     let a = c.args in
     let l = c.loop-i in
-    let m = c.loop-j in
-    let q : a.n ≤ length a.rows = omega (arith, c.well_formed.0.1.0) in (
-      omega arith,
-      seen_more log_table.blank number a.rows l.i l.seen l.invariant.1,
-      differ_later log_table same_logged a.values.now a.rows a.n l.i m.j q c.loop-i-test.true (omega arith) m.invariant.1 l.invariant.2,
+    let none : like_before log_table same_logged a.values.now a.rows.now l.i ≡ false =
+    elim c.else-seen-slot.branch [
+      | else-seen-slot-via-then-seen-slot+else-in_log w ↦ sym (rw c.value_of-value.ensures at w.in_log.ensures) ∙ w.if-in_log.false
+      | else-seen-slot-via-else-seen-slot w ↦
+          unseen log_table same_logged a.values.now a.rows.now number (agree a.values.now) l.i l.seen (omega arith) l.invariant.0 w.if-seen-slot.false
+    ] in (
+      seen_more log_table.blank number a.rows.now l.i l.seen l.invariant.0,
+      differ_later log_table same_logged a.values.now a.rows.now l.i c.loop-i-test.true l.invariant.1 none,
     )
 
 pub returns : goal.returns
 returns c =
     let a = c.args in
     let l = c.loop-i in
-    differ_all log_table same_logged a.values.now a.rows a.n l.i c.loop-i-test.false l.invariant.2
+    let e : l.i ≡ length a.rows.now = omega arith in
+    differ_all log_table same_logged a.values.now a.rows.now (rw e at l.invariant.1)

@@ -1,4 +1,3 @@
-use Prim.Native.Nat.{◌≤◌, ◌-◌}
 use mathlib.Core.Path.{◌≡◌}
 use lib.ListN.{drop}
 use Rattle.ideal.specs.Soundness.{empty_heaps_zero}
@@ -8,7 +7,4 @@ use Rattle.soundplaces.proofs.heaps_sound.Given as goal
 -- the places to come are right just where all are
 abbrev pub invariant-loop-i : goal.invariant-loop-i
 invariant-loop-i l =
-    (l.i ≤ 16) × (empty_heaps_zero (drop l.i l.identities) (drop l.i (chunks 16 l.heaps)) ≡ empty_heaps_zero l.identities (chunks 16 l.heaps))
-
-abbrev pub decreases-loop-i : goal.decreases-loop-i
-decreases-loop-i l = 16 - l.i
+    empty_heaps_zero (drop l.i l.identity-items) (drop l.i (chunks 16 l.heaps)) ≡ empty_heaps_zero l.identity-items (chunks 16 l.heaps)

@@ -1,40 +1,40 @@
-use Prim.Native.Nat.{◌<◌, ◌+◌, ◌-◌, ◌≤◌}
-use mathlib.Core.Path.{sym, ap, ◌≡◌}
+use mathlib.Core.Path.{◌≡◌, refl, sym, ◌∙◌}
+use mathlib.Core.Bool.{Bool, true, false, not, cond}
+use mathlib.Core.List.{[], ◌∷◌}
+use mir.Val.{bool_byte}
+use lib.Dec.{eqb}
 use native.Mathlib.Omega.{arith}
-use lib.ListN.{drop_of_length-le, get_or, length}
+use Rattle.std.proofs.lemmas.List.{append-nil}
+use Rattle.std.proofs.Math.Seq.{append_snoc}
 use Rattle.ideal.specs.Tables.{taken_map}
-use Rattle.soundness.proofs.MapAndHeaps.{map_step, map_rest, bit_small}
+use Rattle.soundness.proofs.MapAndHeaps.{map_rest, map_whole, bit_small}
 use Rattle.soundplaces.proofs.taken_map.Goals as goal
 
-pub loop-i-init : goal.loop-i-init
+flipped : (b : Bool) → bool_byte (not b) ≡ cond b 0 1
+flipped true = refl
+flipped false = refl
+
+pub loop-identity-init : goal.loop-identity-init
 unfolding taken_map
-loop-i-init c =
-    let is = c.args.identities in
-    let h : length is ≤ 16 = omega (arith, c.well_formed) in
-    (omega arith, sym (ap taken_map (drop_of_length-le is h)))
+loop-identity-init c = (tt, tt, ([], append-nil _ ∙ (cc), refl))
 
 pub overflow_mul-map : goal.overflow_mul-map
 overflow_mul-map c =
-    let l = c.loop-i in
-    omega (arith, l.invariant.1, map_rest c.args.identities l.i (omega (arith, c.well_formed)) (omega arith))
+    let (done, all, map) = c.loop-identity.invariant.2 in
+    omega (arith, map_rest _ _ _ done _ all c.in-Some.ensures.steps (omega (arith, c.well_formed)))
 
 pub overflow_add-map : goal.overflow_add-map
 overflow_add-map c =
-    let is = c.args.identities in
-    let l = c.loop-i in
-    let m = map_rest is l.i (omega (arith, c.well_formed)) (omega arith) in
-    omega (arith, l.invariant.1, c.taken_bit.ensures, bit_small (get_or is (l.i - 1) 0))
+    let (done, all, map) = c.loop-identity.invariant.2 in
+    omega (arith, flipped (eqb c.in-Some.identity.now 0), bit_small c.in-Some.identity.now, map_rest _ _ _ done _ all c.in-Some.ensures.steps (omega (arith, c.well_formed)))
 
-pub loop-i-preserved : goal.loop-i-preserved
-loop-i-preserved c =
-    let is = c.args.identities in
-    let l = c.loop-i in
-    let i = l.i - 1 in
-    let h : i < length is = omega (arith, c.well_formed) in
-    let e : i + 1 ≡ l.i = omega arith in
-    (omega arith, rw (map_step is i h, e, ← l.invariant.1, c.taken_bit.ensures))
+pub loop-identity-preserved : goal.loop-identity-preserved
+unfolding taken_map
+loop-identity-preserved c =
+    let (done, all, map) = c.loop-identity.invariant.2 in
+    (tt, tt, (c.in-Some.identity.now ∷ done, sym (append_snoc _ _ _) ∙ rw (← c.in-Some.ensures.steps) all, omega (arith, flipped (eqb c.in-Some.identity.now 0))))
 
 pub returns : goal.returns
 returns c =
-    let e : c.loop-i.i ≡ 0 = omega arith in
-    rw e at c.loop-i.invariant.1
+    let (done, all, map) = c.loop-identity.invariant.2 in
+    map ∙ map_whole _ _ done all c.in-None.ensures.steps.0

@@ -1,12 +1,12 @@
-use Prim.Native.Nat.{◌≤◌}
 use mathlib.Core.Path.{◌≡◌}
-use lib.ListN.{drop}
+use mathlib.Core.List.{List, ◌++◌}
+use Rattle.std.proofs.Common.{ℕ}
 use Rattle.ideal.specs.Tables.{taken_map}
 use Rattle.soundplaces.proofs.taken_map.Given as goal
 
--- the map of the places from i on
-abbrev pub invariant-loop-i : goal.invariant-loop-i
-invariant-loop-i l = (l.i ≤ 16) × (l.map ≡ taken_map (drop l.i l.identities))
-
-abbrev pub decreases-loop-i : goal.decreases-loop-i
-decreases-loop-i l = l.i
+-- the map of the places that have come, which follow those that are left
+abbrev pub invariant-loop-identity : goal.invariant-loop-identity
+invariant-loop-identity l =
+    (goal.iterator-loop-identity).can_next l.identity-iterator
+    × (goal.iterator-loop-identity).is_finite l.identity-iterator
+    × ((done : List ℕ) × (l.identity-iterator.iter.rest.now ++ done ≡ l.fn.identities) × (l.map ≡ taken_map done))

@@ -1,4 +1,5 @@
 use Rattle.calls.proofs.Carried.{created, exited, attested, protected, handed_over, released}
+use Rattle.calls.proofs.Edits.{none_put, create_put, exit_put, attest_put, protect_put, hand_over_put, release_put}
 use Rattle.calls.proofs.Whole.{nothing_put}
 use Rattle.calls.proofs.Ready.{ready}
 use Rattle.calls.proofs.Rest.{rest_alone}
@@ -11,48 +12,55 @@ pub exit_running-requires : goal.exit_running-requires
 exit_running-requires c = (ready c.requires.sound).leaving
 
 pub attest-requires : goal.attest-requires
-attest-requires c = let s = ready c.requires.sound in (s.runs, s.heaps, s.log)
+attest-requires c = let s = ready c.requires.sound in (s.runs, s.log_count, s.heaps, s.log)
 
 pub protect-requires : goal.protect-requires
-protect-requires c = let s = ready c.requires.sound in (s.runs, s.heaps, s.escrow)
+protect-requires c = let s = ready c.requires.sound in (s.runs, s.escrow_count, s.heaps, s.escrow)
 
 pub release-requires : goal.release-requires
-release-requires c = let s = ready c.requires.sound in (s.runs, s.escrow, s.escrow_used)
+release-requires c = let s = ready c.requires.sound in (s.runs, s.escrow_count, s.escrow, s.escrow_used)
 
-pub answer_alone-a-requires : goal.answer_alone-a-requires
-answer_alone-a-requires c = record { sound = c.requires.sound; call_within = c.requires.call_within; alone = rest_alone _ c.in_default.not-Create c.in_default.not-Exit c.in_default.not-Attest c.in_default.not-Protect c.in_default.not-HandOver c.in_default.not-Release }
+pub answer_alone-answer-requires : goal.answer_alone-answer-requires
+answer_alone-answer-requires c = record { sound = c.requires.sound; call_within = c.requires.call_within; alone = rest_alone _ c.in_default.not-Create c.in_default.not-Exit c.in_default.not-Attest c.in_default.not-Protect c.in_default.not-HandOver c.in_default.not-Release }
 
-pub returns-in-Create : goal.returns-in-Create
-returns-in-Create c =
-    let both = created c.requires.sound _ _ _ c.in-Create.is c.create.ensures in
-    record { output_after = both.0; edits_by = both.1 }
+pub returns-in-Create-clause-output_after : goal.returns-in-Create-clause-output_after
+returns-in-Create-clause-output_after c = created c.requires.sound _ _ _ c.in-Create.is c.create.ensures
 
-pub returns-in-Exit : goal.returns-in-Exit
-returns-in-Exit c =
-    let both = exited c.requires.sound _ _ _ c.in-Exit.is c.exit_running.ensures.value c.exit_running.ensures.heaps_after in
-    record { output_after = both.0; edits_by = both.1 }
+pub returns-in-Create-clause-edits_by : goal.returns-in-Create-clause-edits_by
+returns-in-Create-clause-edits_by c = create_put _ _ c.create.ensures
 
-pub returns-in-Attest : goal.returns-in-Attest
-returns-in-Attest c =
-    let both = attested c.requires.sound _ _ _ c.in-Attest.is c.attest.ensures in
-    record { output_after = both.0; edits_by = both.1 }
+pub returns-in-Exit-clause-output_after : goal.returns-in-Exit-clause-output_after
+returns-in-Exit-clause-output_after c = exited c.requires.sound _ _ _ c.in-Exit.is c.exit_running.ensures.value c.exit_running.ensures.heaps_after
 
-pub returns-in-Protect : goal.returns-in-Protect
-returns-in-Protect c =
-    let both = protected c.requires.sound _ _ _ c.in-Protect.is c.protect.ensures in
-    record { output_after = both.0; edits_by = both.1 }
+pub returns-in-Exit-clause-edits_by : goal.returns-in-Exit-clause-edits_by
+returns-in-Exit-clause-edits_by c = exit_put c.exit_running.ensures.value
 
-pub returns-in-HandOver : goal.returns-in-HandOver
-returns-in-HandOver c =
-    let both = handed_over c.requires.sound _ _ _ c.in-HandOver.is c.hand_over.ensures in
-    record { output_after = both.0; edits_by = both.1 }
+pub returns-in-Attest-clause-output_after : goal.returns-in-Attest-clause-output_after
+returns-in-Attest-clause-output_after c = attested c.requires.sound _ _ _ c.in-Attest.is c.attest.ensures
 
-pub returns-in-Release : goal.returns-in-Release
-returns-in-Release c =
-    let both = released c.requires.sound _ _ _ c.in-Release.is c.release.ensures in
-    record { output_after = both.0; edits_by = both.1 }
+pub returns-in-Attest-clause-edits_by : goal.returns-in-Attest-clause-edits_by
+returns-in-Attest-clause-edits_by c = attest_put c.requires.sound _ _ c.attest.ensures
 
-pub returns-in_default : goal.returns-in_default
-returns-in_default c =
-    let both = nothing_put c.unedited.ensures c.answer_alone-a.ensures in
-    record { output_after = both.0; edits_by = both.1 }
+pub returns-in-Protect-clause-output_after : goal.returns-in-Protect-clause-output_after
+returns-in-Protect-clause-output_after c = protected c.requires.sound _ _ _ c.in-Protect.is c.protect.ensures
+
+pub returns-in-Protect-clause-edits_by : goal.returns-in-Protect-clause-edits_by
+returns-in-Protect-clause-edits_by c = protect_put c.requires.sound _ _ _ _ c.protect.ensures
+
+pub returns-in-HandOver-clause-output_after : goal.returns-in-HandOver-clause-output_after
+returns-in-HandOver-clause-output_after c = handed_over c.requires.sound _ _ _ c.in-HandOver.is c.hand_over.ensures
+
+pub returns-in-HandOver-clause-edits_by : goal.returns-in-HandOver-clause-edits_by
+returns-in-HandOver-clause-edits_by c = hand_over_put _ c.hand_over.ensures
+
+pub returns-in-Release-clause-output_after : goal.returns-in-Release-clause-output_after
+returns-in-Release-clause-output_after c = released c.requires.sound _ _ _ c.in-Release.is c.release.ensures
+
+pub returns-in-Release-clause-edits_by : goal.returns-in-Release-clause-edits_by
+returns-in-Release-clause-edits_by c = release_put c.requires.sound _ _ c.release.ensures
+
+pub returns-in_default-clause-output_after : goal.returns-in_default-clause-output_after
+returns-in_default-clause-output_after c = nothing_put c.unedited.ensures c.answer_alone-answer.ensures.output_after
+
+pub returns-in_default-clause-edits_by : goal.returns-in_default-clause-edits_by
+returns-in_default-clause-edits_by c = none_put c.unedited.ensures

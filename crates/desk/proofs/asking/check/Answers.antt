@@ -1,11 +1,21 @@
-use mathlib.Core.Path.{◌∙◌}
+use Rattle.std.proofs.Common.{◌≡◌, ◌∙◌, eqb, false, rules, arith}
+use borrow.Author.Tests.{eq-eqb, ne_eqb}
 use Rattle.ideal.specs.declared.Profile.TheVariants.{Full}
 use Rattle.calls.proofs.Whole.{sound_entry}
 use Rattle.desk.proofs.Asked.{checked}
 use Rattle.desk.proofs.asking.check.Goals as goal
 
-pub returns : goal.returns
-returns c =
-    checked c.args.held c.args.log c.args.escrow c.args.heaps.now c.args.shared.now c.args.log_values.now c.args.escrow_values.now c.args.output.now c.args.claim
-    c.well_formed.1.1.1.1.1.1.1.1.0.1.1.0.1 c.well_formed.1.1.1.1.1.1.1.1.0.1.1.1.0.1.1.0.1
-    c.call_sound-c.result _ _ _ _ _ _ c.check_record-record.ensures (c.call_sound-c.ensures.output_after ∙ sound_entry Full _ _ _ c.requires)
+pub returns-in-0-clause-leaves : goal.returns-in-0-clause-leaves
+returns-in-0-clause-leaves c =
+    let x = c.args in
+    checked x.held x.log.now x.escrow.now x.lent.now x.claim (search rules) (search rules)
+    _ c.call_sound-change.new.lent _ c.check_record-record.ensures (c.call_sound-change.ensures.output_after ∙ sound_entry Full _ _ _ c.requires)
+    _ (rw (eq-eqb _ _ c.in-0.is))
+
+pub returns-in_default-clause-leaves : goal.returns-in_default-clause-leaves
+returns-in_default-clause-leaves c =
+    let x = c.args in
+    let n : eqb c.call_sound-change.result.answer.code 0 ≡ false = ne_eqb _ _ (λ z. absurd (omega arith)) in
+    checked x.held x.log.now x.escrow.now x.lent.now x.claim (search rules) (search rules)
+    _ c.call_sound-change.new.lent _ c.check_record-record.ensures (c.call_sound-change.ensures.output_after ∙ sound_entry Full _ _ _ c.requires)
+    _ (rw n)

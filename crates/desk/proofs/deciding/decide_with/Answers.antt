@@ -1,16 +1,21 @@
-use mathlib.Core.Path.{◌∙◌, ap}
-use Rattle.desk.specs.Decision.{decided}
-use Rattle.desk.proofs.Signs.{widens, adds, subtracts, difference_back}
+use Rattle.std.proofs.Common.{◌∙◌, ap, arith}
+use Rattle.std.proofs.lemmas.Int.{ints}
+use Rattle.desk.specs.Decision.{in_range, correction_in_range, decided}
+use Rattle.desk.proofs.Ranges.{is_within}
 use Rattle.desk.proofs.deciding.decide_with.Goals as goal
 
-pub overflow_cast-correction : goal.overflow_cast-correction
-overflow_cast-correction c = widens c.ranges.correction
-
-pub overflow_add-reading : goal.overflow_add-reading
-overflow_add-reading c = adds c.ranges.reading c.ranges.setpoint c.ranges.correction c.requires.reading_value c.requires.setpoint_value c.requires.correction_value
-
 pub overflow_sub-reading : goal.overflow_sub-reading
-overflow_sub-reading c = subtracts c.ranges.reading c.ranges.setpoint c.ranges.correction c.requires.reading_value c.requires.setpoint_value c.requires.correction_value
+unfolding in_range correction_in_range
+overflow_sub-reading c =
+    let r = is_within _ _ _ c.requires.reading_value in
+    let s = is_within _ _ _ c.requires.setpoint_value in
+    let x = is_within _ _ _ c.requires.correction_value in
+    omega (arith, ints, r.0, r.1, s.0, s.1, x.0, x.1)
 
 pub returns : goal.returns
-returns c = c.decide.ensures ∙ ap decided (difference_back c.ranges.reading c.ranges.setpoint c.ranges.correction c.requires.reading_value c.requires.setpoint_value c.requires.correction_value)
+unfolding in_range correction_in_range
+returns c =
+    let r = is_within _ _ _ c.requires.reading_value in
+    let s = is_within _ _ _ c.requires.setpoint_value in
+    let x = is_within _ _ _ c.requires.correction_value in
+    c.decide.ensures ∙ ap decided (omega (arith, ints, r.0, r.1, s.0, s.1, x.0, x.1))

@@ -1,6 +1,6 @@
-use mathlib.Core.Path.{◌∙◌}
+use Rattle.std.proofs.Common.{◌∙◌}
 use Rattle.desk.proofs.Desked.{desked}
 use Rattle.desk.proofs.list.desk_of.Goals as goal
 
-pub returns : goal.returns
-returns c = desked _ _ _ _ _ _ _ _ (c.answer_of.ensures ∙ c.desk_with.ensures) c.ask_for-checked.ensures
+pub returns-clause-leaves : goal.returns-clause-leaves
+returns-clause-leaves c = desked _ _ _ _ _ _ _ _ (c.from.ensures ∙ c.desk_with.ensures) c.ask_for-checked.ensures.leaves

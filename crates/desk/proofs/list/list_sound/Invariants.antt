@@ -1,16 +1,17 @@
-use mathlib.Core.Path.{◌≡◌}
-use Prim.Native.Nat.{◌-◌, ◌≤◌}
+use Rattle.std.proofs.Common.{◌≡◌, ◌++◌, length, map, take, drop}
 use Rattle.ideal.specs.Box.{call_on}
-use Rattle.ideal.specs.Tables.{lent_tables}
-use Rattle.desk.proofs.Listed.{stands, Upto}
+use Rattle.calls.specs.Buffers.{tables_in, SameBuffers}
+use Rattle.desk.specs.Desk.{desk_on}
 use Rattle.desk.proofs.list.list_sound.Given as goal
 
+-- the tanks so far have their answers, and nothing of the box is altered
 abbrev pub invariant-loop-i : goal.invariant-loop-i
 invariant-loop-i l =
-    (l.i ≤ 8)
-    × (stands l.answers.rows (lent_tables l.held l.log.rows l.escrow.rows l.heaps l.shared l.log_values l.escrow_values) l.output
-    ≡ Upto call_on (lent_tables l.held l.log.rows l.escrow.rows l.initial.heaps l.initial.shared l.initial.log_values l.initial.escrow_values) l.initial.output l.list.rows l.i)
-
-abbrev pub decreases-loop-i : goal.decreases-loop-i
-decreases-loop-i l =
-    8 - l.i
+    let f = l.initial in
+    let t = tables_in f.held f.log f.escrow f.lent in
+    record {
+      answered : l.answers ≡ map (desk_on call_on t (length f.lent.output.now)) (take l.i l.tanks) ++ drop l.i f.answers;
+      same_buffers : SameBuffers f.lent l.lent;
+      tables : tables_in f.held f.log f.escrow l.lent ≡ t;
+      output : l.lent.output.now ≡ f.lent.output.now;
+    }

@@ -1,11 +1,9 @@
-use Rattle.std.proofs.Common.{◌-◌, length}
+use Rattle.std.proofs.Common.{◌≡◌, ◌&&◌, eqb, bit_or, drop}
+use Rattle.ideal.specs.State.{every}
 use Rattle.ideal.specs.Tables.{escrow_table}
-use Rattle.rows.specs.Unfit.{escrow_clear}
-use Rattle.rows.proofs.Unfitting.{So}
 use Rattle.rows.proofs.escrow_rows.escrow_unfit.Given as goal
 
-abbrev pub invariant-loop-i : goal.invariant-loop-i
-invariant-loop-i l = So escrow_table l.rows l.n l.i (escrow_clear l.bits)
-
-abbrev pub decreases-loop-i : goal.decreases-loop-i
-decreases-loop-i l = length l.rows - l.i
+abbrev pub invariant-loop-row : goal.invariant-loop-row
+invariant-loop-row l =
+    eqb (bit_or (bit_or (bit_or (bit_or l.sources l.recipients) l.handles) l.places) l.marks) 0 && every escrow_table.is_blank (drop l.row-index l.row-items)
+    ≡ every escrow_table.is_blank l.row-items

@@ -1,12 +1,16 @@
-use Rattle.std.proofs.Common.{arith}
+use Rattle.std.proofs.Common.{◌∙◌}
 use Rattle.ideal.specs.Tables.{log_table}
-use Rattle.rows.proofs.Unfitting.{so_step, unfit_is}
+use Rattle.rows.specs.Unfit.{unfit}
+use Rattle.rows.proofs.Bits.{log_joined, blank_step, blank_end}
 use Rattle.rows.proofs.log_rows.log_unfit.Goals as goal
 
-pub loop-i-preserved : goal.loop-i-preserved
-loop-i-preserved c =
-    so_step log_table c.args.rows.now c.args.n c.loop-i.i _ _ _ (omega arith) c.log_row_at.ensures c.with_log_row-bits.ensures c.loop-i.invariant
+pub loop-row-preserved : goal.loop-row-preserved
+loop-row-preserved c =
+    blank_step log_table.is_blank _ log_table.blank _ _ _ c.loop-row-test.true (log_joined c.loop-row.identities c.loop-row.tags c.loop-row.places _)
+    ∙ c.loop-row.invariant
 
-pub returns : goal.returns
-returns c =
-    unfit_is log_table c.args.rows.now c.args.n c.loop-i.i _ _ (omega arith) c.loop-i.invariant c.log_bits_unfit.ensures
+pub returns-else-not-counted : goal.returns-else-not-counted
+unfolding unfit
+returns-else-not-counted c =
+    rw
+    (blank_end log_table.is_blank c.args.rows.now c.args.n c.min.result c.loop-row.row-index _ c.min.ensures c.loop-row-test.false c.loop-row.invariant, c.if-not-counted.false)
