@@ -48,12 +48,15 @@ pub fn same(a: &[u8], b: &[u8]) -> bool
     a.iter().zip(b).all(|(x, y)| x == y)
 }
 
-// The bytes of src over the front of dst.
+// The bytes of src over the front of dst. Not by copy_from_slice, which becomes memmove: the archives for C are to need no more
+// of the C library than memcpy and memset.
 pub fn copy(src: &[u8], dst: &mut [u8])
     requires { length src.now ≤ length dst.old }
     ensures { dst.new ≡ src.now ++ drop (length src.now) dst.old }
 {
-    dst[..src.len()].copy_from_slice(src);
+    for (i, b) in src.iter().enumerate() {
+        dst[i] = *b;
+    }
 }
 
 // The bytes of src into dst from start on.
@@ -63,7 +66,7 @@ pub fn put(src: &[u8], dst: &mut [u8], start: usize)
     ensures { dst.new ≡ sets dst.old start src.now }
 {
     let end = start + src.len();
-    dst[start..end].copy_from_slice(src);
+    copy(src, &mut dst[start..end]);
 }
 
 // Whether size bytes from offset on go beyond a limit. Nothing is added, so that nothing wraps, however long the bytes are.
@@ -92,12 +95,22 @@ pub fn clear(dst: &mut [u8])
     dst.fill(0);
 }
 
+// The bytes from n on over the front of dst; the last n stay as they were. Not by copy_within, which is memmove.
+fn move_down(dst: &mut [u8], n: usize)
+    requires { n ≤ length dst.old }
+    ensures { dst.new ≡ drop n dst.old ++ drop (length dst.old - n) dst.old }
+{
+    for i in 0..dst.len() - n {
+        dst[i] = dst[i + n];
+    }
+}
+
 // The first n bytes taken out of dst: what follows them closes up, with zeros behind.
 pub fn take_out(dst: &mut [u8], n: usize)
     requires { n ≤ length dst.old }
     ensures { dst.new ≡ drop n dst.old ++ replicate n 0 }
 {
-    dst.copy_within(n.., 0);
+    move_down(dst, n);
     let end = dst.len() - n;
     clear(&mut dst[end..]);
 }

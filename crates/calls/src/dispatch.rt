@@ -4,7 +4,6 @@ ghost use Rattle.record.specs.Meaning.{bytes_in, call_in, PartWithin, CallWithin
 ghost use Rattle.calls.specs.Buffers.{tables_in, SoundIn, result_in, SameBuffers};
 ghost use Rattle.calls.specs.Entry.{carried_in, carried_on};
 ghost use Rattle.state.specs.Edits.{unchanged, EditsBy};
-ghost use Rattle.state.specs.Refusals.{change_in};
 ghost use Rattle.calls.specs.Alone.{Alone};
 
 use crate::Buffers;
@@ -19,7 +18,7 @@ use release::release;
 use retrieval::retrieve;
 use services::{create, exit_running, hand_over, report};
 use shared::{shared_read, shared_write};
-use state::{Answer, Change, Refusal, answer_of, shown_of, unedited};
+use state::{Answer, Change, answer_of, change_of, refuse, shown_of, unedited};
 
 // The bytes of a bytes field.
 fn bytes_of(bytes: &[u8], part: Part) -> &[u8]
@@ -112,34 +111,39 @@ fn carry_out(
     lent: &mut Buffers,
     bytes: &[u8],
     called: Call,
-) -> Result<Change, Refusal>
+) -> Change
     requires sound { SoundIn held log.now escrow.now lent.old }
     requires call_within { CallWithin bytes.now called }
     ensures same_buffers { SameBuffers lent.old lent.new }
-    ensures output_after { result_in log.now escrow.now (change_in held result) lent.new
+    ensures output_after { result_in log.now escrow.now result lent.new
         ≡ carried_on (tables_in held log.now escrow.now lent.old) (call_in bytes.now called) lent.old.output.now }
-    ensures edits_by { EditsBy held escrow.now (change_in held result).held (change_in held result).edits }
+    ensures edits_by { EditsBy held escrow.now result.held result.edits }
 {
     let heaps = &mut *lent.heaps;
     let log_values = &mut *lent.log_values;
     let escrow_values = &mut *lent.escrow_values;
     match called {
-        Call::Create { place, identity } => create(held, place, identity),
-        Call::Exit => exit_running(held, heaps),
-        Call::Attest { offset, length } => attest(held, log, heaps, log_values, offset, length),
+        Call::Create { place, identity } => change_of(held, create(held, place, identity)),
+        Call::Exit => change_of(held, exit_running(held, heaps)),
+        Call::Attest { offset, length } => {
+            change_of(held, attest(held, log, heaps, log_values, offset, length))
+        }
         Call::Protect {
             identity: to,
             offset,
             length,
             draw,
-        } => protect(held, escrow, heaps, escrow_values, to, offset, length, draw),
-        Call::HandOver { place } => hand_over(held, place),
+        } => {
+            let outcome = protect(held, escrow, heaps, escrow_values, to, offset, length, draw);
+            change_of(held, outcome)
+        }
+        Call::HandOver { place } => change_of(held, hand_over(held, place)),
         Call::Release { identity, handle } => {
-            release(held, escrow, escrow_values, identity, handle)
+            change_of(held, release(held, escrow, escrow_values, identity, handle))
         }
         _ => {
             let answer = answer_alone(held, log, escrow, lent, bytes, called);
-            Ok(unedited(held, answer))
+            unedited(held, answer)
         }
     }
 }
@@ -154,16 +158,18 @@ pub fn carry_out_in(
     lent: &mut Buffers,
     bytes: &[u8],
     called: Call,
-) -> Result<Change, Refusal>
+) -> Change
     requires sound { SoundIn held log.now escrow.now lent.old }
     requires call_within { CallWithin bytes.now called }
     ensures same_buffers { SameBuffers lent.old lent.new }
-    ensures output_after { result_in log.now escrow.now (change_in held result) lent.new
+    ensures output_after { result_in log.now escrow.now result lent.new
         ≡ carried_in profile (tables_in held log.now escrow.now lent.old) (call_in bytes.now called) lent.old.output.now }
-    ensures edits_by { EditsBy held escrow.now (change_in held result).held (change_in held result).edits }
+    ensures edits_by { EditsBy held escrow.now result.held result.edits }
 {
     let heaps = &mut *lent.heaps;
     let log_values = &mut *lent.log_values;
-    own_refusal(profile, held, log, heaps, log_values, called)?;
-    carry_out(held, log, escrow, lent, bytes, called)
+    match own_refusal(profile, held, log, heaps, log_values, called) {
+        Ok(()) => carry_out(held, log, escrow, lent, bytes, called),
+        Err(refusal) => refuse(held, refusal.number()),
+    }
 }

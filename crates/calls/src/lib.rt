@@ -6,6 +6,7 @@ mod dispatch;
 
 ghost use Rattle.std.specs.Prelude.{◌≡◌, length};
 ghost use Rattle.ideal.specs.LevelOne.{box_of};
+ghost use Rattle.ideal.specs.Tables.{lent_tables};
 ghost use Rattle.state.specs.Parts.{RestBlank};
 ghost use Rattle.state.specs.Answers.{refused_with};
 ghost use Rattle.state.specs.Edits.{unchanged, EditsBy};
@@ -17,7 +18,7 @@ use ideal::{BoxRecord, EscrowRow, LogRow, Profile};
 use reader::read_call;
 use record::Unread;
 use sound::{box_sound, sizes_right};
-use state::{Change, Refusal, change_of, refuse};
+use state::{Change, Refusal, refuse};
 
 // The buffers that a host lends for a call.
 #[derive(Drop)]
@@ -59,25 +60,41 @@ fn refuse_unsound(held: BoxRecord) -> Change
     refuse(held, Refusal::Unsound.number())
 }
 
-// Whether the lent buffers are of their sizes and the box is sound, where its unused rows are blank.
-pub fn is_ready(held: BoxRecord, log: &[LogRow], escrow: &[EscrowRow], lent: &Buffers) -> bool
+// Whether the lent buffers are of their sizes and the box is sound, where its unused rows are blank. The buffers are lent to be
+// read alone.
+pub fn is_ready(
+    held: BoxRecord,
+    log: &[LogRow],
+    escrow: &[EscrowRow],
+    heaps: &[u8],
+    shared: &[u8],
+    log_values: &[u8],
+    escrow_values: &[u8],
+    output: &[u8],
+) -> bool
+    requires counted { (length log.now ≡ 64) × (length escrow.now ≡ 64) }
+    requires rest_blank { RestBlank held log.now escrow.now }
+    ensures { result ≡ ready_on (lent_tables held log.now escrow.now heaps.now shared.now log_values.now escrow_values.now) (length output.now) }
+{
+    sizes_right(heaps, shared, log_values, escrow_values, output)
+        && box_sound(held, log, escrow, heaps, log_values, escrow_values)
+}
+
+// The same of the buffers of a call.
+pub fn is_ready_in(held: BoxRecord, log: &[LogRow], escrow: &[EscrowRow], lent: &Buffers) -> bool
     requires counted { (length log.now ≡ 64) × (length escrow.now ≡ 64) }
     requires rest_blank { RestBlank held log.now escrow.now }
     ensures { result ≡ ready_on (tables_in held log.now escrow.now lent.now) (length lent.now.output.now) }
 {
-    sizes_right(
+    is_ready(
+        held,
+        log,
+        escrow,
         lent.heaps,
         lent.shared,
         lent.log_values,
         lent.escrow_values,
         lent.output,
-    ) && box_sound(
-        held,
-        log,
-        escrow,
-        lent.heaps,
-        lent.log_values,
-        lent.escrow_values,
     )
 }
 
@@ -98,8 +115,8 @@ pub fn call_sound(
 {
     match read_call(bytes) {
         Ok(read) => {
-            let outcome = carry_out_in(profile, held, log, escrow, lent, bytes, read.call);
-            with_used(change_of(held, outcome), read.used)
+            let change = carry_out_in(profile, held, log, escrow, lent, bytes, read.call);
+            with_used(change, read.used)
         }
         Err(Unread::Cut { missing }) => refuse_cut(held, missing),
         Err(Unread::UnknownKind) => refuse(held, Refusal::UnknownKind.number()),
@@ -123,7 +140,7 @@ pub fn call(
         ≡ entry_on (box_of profile) (tables_in held log.now escrow.now lent.old) bytes.now lent.old.output.now }
     ensures edits_by { EditsBy held escrow.now result.held result.edits }
 {
-    if !is_ready(held, log, escrow, lent) {
+    if !is_ready_in(held, log, escrow, lent) {
         return refuse_unsound(held);
     }
     call_sound(profile, held, log, escrow, lent, bytes)

@@ -34,6 +34,11 @@ pub as_many : (n m : ℕ) → shift_code n m ≡ 0 → m ≡ n
 unfolding shift_code
 as_many n m z = grind (arith, nat_tests)
 
+-- and is refused with 15 with another count alone
+pub not_as_many : (n m : ℕ) → shift_code n m ≡ 15 → m ≡ n → ⊥
+unfolding shift_code
+not_as_many n m z e = grind (arith, nat_tests)
+
 pub shift_right : (tanks : List Tank) (answers answers' : List TankAnswer) (t' t : Tables) (output' output : List ℕ)
     → shift_code (length tanks) (length answers) ≡ 0 → list_result answers' t' output' ≡ list_leaves call_on t output tanks
     → shift_result 0 answers' t' output' ≡ shift_leaves call_on t output tanks answers

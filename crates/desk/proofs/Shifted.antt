@@ -15,7 +15,7 @@ use Rattle.desk.specs.declared.Tank.{Tank}
 use Rattle.desk.specs.declared.TankAnswer.{TankAnswer}
 use Rattle.desk.specs.Desk.{Answered, is_list, shift_code, desk_on, shift_on}
 use Rattle.desk.specs.Accuracy.{OfList, EachItsOwn}
-use Rattle.desk.proofs.Lists.{as_many}
+use Rattle.desk.proofs.Lists.{as_many, not_as_many}
 
 module _ (box : Tables → Element → Result) (t : Tables) (size : ℕ) (tanks : List Tank) (answers : List TankAnswer) where
   abbrev result : Answered
@@ -34,7 +34,7 @@ module _ (box : Tables → Element → Result) (t : Tables) (size : ℕ) (tanks 
   unfolding shift_on shift_code is_list
   of_list =
       record {
-        size = (λ z e. grind (arith, nat_tests), λ other. grind (arith, nat_tests));
+        size = (λ z. not_as_many (length tanks) (length answers) z, λ other. grind (arith, nat_tests));
         whole = (λ z. (grind (arith, nat_tests), λ f. grind (arith, nat_tests)), λ w. grind (arith, nat_tests, w.1));
         accepts = (λ z. (grind (arith, nat_tests), grind (arith, nat_tests), grind (arith, nat_tests)), λ w. grind (arith, nat_tests));
         count =

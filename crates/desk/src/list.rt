@@ -10,7 +10,7 @@ ghost use Rattle.desk.specs.Results.{desk_result, desk_leaves, list_result, list
 use crate::asking::{ask_for, needs_box};
 use crate::deciding::desk_with;
 use crate::{Tank, TankAnswer};
-use calls::{Buffers, is_ready};
+use calls::{Buffers, is_ready_in};
 use ideal::{BoxRecord, EscrowRow, LogRow};
 use rows::{escrow_unfit, log_unfit};
 use state::Refusal;
@@ -129,7 +129,7 @@ fn lent_list(
     if none_asks(tanks)
         || log_unfit(log, held.log.rows as usize)
         || escrow_unfit(escrow, held.escrow.rows as usize)
-        || !is_ready(held, log, escrow, lent)
+        || !is_ready_in(held, log, escrow, lent)
     {
         refused_list(tanks, answers);
         return;

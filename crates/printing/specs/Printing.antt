@@ -1,4 +1,4 @@
--- What is read of a script, and what is printed of its sheet. Which bytes come in by standard input and go out by standard
+-- What is printed of a script's sheet. Which bytes come in by standard input and go out by standard
 -- output no contract can say: the bytes that are handed on to be written are said.
 use Rattle.std.specs.Prelude.{ℕ, ◌+◌, ◌≤◌, ◌<◌, ◌≡◌, Result, Ok, Err, List, length, take, drop}
 use Rattle.ideal.specs.Tables.{Tables}

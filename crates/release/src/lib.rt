@@ -50,7 +50,7 @@ fn spend(held: BoxRecord, at: usize, row: EscrowRow) -> Change
 }
 
 // The values behind the one that is given up close up, and the bytes that are freed are zero.
-#[tactic(auto, using(retrieval::proofs::Search::given, retrieval::proofs::Search::not_given, crate::proofs::Steps::row_is, crate::proofs::Steps::within_used, crate::proofs::Closed::part_long, crate::proofs::Closed::taken_out_lem), unfolding(retrieval::specs::Search::entry_found, crate::specs::Narrow::release_on, crate::specs::Narrow::release_refusal, crate::specs::Narrow::released_on, crate::specs::Narrow::given_at, state::specs::Edits::unless, state::specs::Answers::settled, ideal::specs::Step::first_holding, ideal::specs::Step::absent))]
+#[tactic(auto, using(retrieval::proofs::Search::given, retrieval::proofs::Search::not_given, crate::proofs::Steps::row_is, crate::proofs::Steps::found_fits, crate::proofs::Closed::part_long, crate::proofs::Closed::taken_out_lem), unfolding(retrieval::specs::Search::entry_found, crate::specs::Narrow::release_on, crate::specs::Narrow::release_refusal, crate::specs::Narrow::released_on, crate::specs::Narrow::given_at, state::specs::Edits::unless, state::specs::Answers::settled, ideal::specs::Step::first_holding, ideal::specs::Step::absent))]
 pub fn release(
     held: BoxRecord,
     escrow: &[EscrowRow],

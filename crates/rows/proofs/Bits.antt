@@ -64,11 +64,28 @@ escrow_joined sources recipients handles places marks r =
     ∙ joined (bit_or before marks) (bit_or here r.mark)
     ∙ ap (λ b. eqb (bit_or before marks) 0 && b) (simp (joined, sum_bits, and_assoc))
 
+-- one element on
+pub every_step : {A : Type 0} (p : A → Bool) (l : List A) (d : A) (i : ℕ) → i < length l
+    → every p (drop i l) ≡ p (get_or l i d) && every p (drop (i + 1) l)
+unfolding every
+every_step p l d i h = rw (drop-cons l i d h, add-one i)
+
 -- one row on, where `more` says that the rows so far are blank
 pub blank_step : {A : Type 0} (p : A → Bool) (l : List A) (d : A) (i : ℕ) (so more : Bool) → i < length l
     → more ≡ so && p (get_or l i d) → more && every p (drop (i + 1) l) ≡ so && every p (drop i l)
+blank_step p l d i so more h e = rw (e, every_step p l d i h) (and_assoc so _ _)
+
+-- the same of a row that was read by itself
+pub blank_read : {A : Type 0} (p : A → Bool) (l : List A) (d : A) (i : ℕ) (so more : Bool) (r : A) → i < length l
+    → r ≡ get_or l i d → more ≡ so && p r → more && every p (drop (i + 1) l) ≡ so && every p (drop i l)
+blank_read p l d i so more r h e f = blank_step p l d i so more h (f ∙ ap (λ x. so && p x) e)
+
+-- behind the last row, where those from m on were gone over
+pub blank_from : {A : Type 0} (p : A → Bool) (rows : List A) (n m i : ℕ) (so : Bool) → m ≡ min n (length rows)
+    → length rows ≤ i → so && every p (drop i rows) ≡ every p (drop m rows) → so ≡ every p (drop n rows)
 unfolding every
-blank_step p l d i so more h e = rw (e, drop-cons l i d h, add-one i) (and_assoc so _ _)
+blank_from p rows n m i so e over inv =
+    sym (and_nil so) ∙ (rw (drop_of_length-le rows over) at inv) ∙ ap (every p) (rw (e, drop_min))
 
 -- behind the last of the rows from n on
 pub blank_end : {A : Type 0} (p : A → Bool) (rows : List A) (n m i : ℕ) (so : Bool) → m ≡ min n (length rows)

@@ -39,7 +39,8 @@ pub fn escrow_unfit(rows: &[EscrowRow], n: usize) -> bool
     let mut handles = 0;
     let mut places = 0;
     let mut marks = 0;
-    for row in &rows[n.min(rows.len())..] {
+    for i in n.min(rows.len())..rows.len() {
+        let row = escrow_row_at(rows, i);
         sources |= row.source;
         recipients |= row.recipient;
         handles |= row.handle.0;

@@ -26,6 +26,7 @@ pub fn put_log_row(rows: &mut [LogRow], edit: Option<LogEdit>)
 
 // Whether the rows are not 64, or one from n on isn't blank. Each field is joined apart, since in one number a field waits for the
 // one before, and first and length as one, so that they are read as one. No row is a way out, so that the loop is straight code.
+// By index: each row is read by the function that document 01 asks for.
 #[tactic(auto, unfolding(crate::specs::Unfit::unfit))]
 pub fn log_unfit(rows: &[LogRow], n: usize) -> bool
     ensures { result ≡ unfit log_table n rows.now }
@@ -33,7 +34,8 @@ pub fn log_unfit(rows: &[LogRow], n: usize) -> bool
     let mut identities = 0;
     let mut tags = 0;
     let mut places = 0;
-    for row in &rows[n.min(rows.len())..] {
+    for i in n.min(rows.len())..rows.len() {
+        let row = log_row_at(rows, i);
         identities |= row.identity;
         tags |= row.tag.0;
         places |= row.first as u64 + row.length as u64 * 65536;

@@ -33,12 +33,16 @@ map_taken (x ∷ ids) (suc p) i h e n =
     let k = map_taken ids p i (omega arith) e n in
     rw (k, pow-succ' 2 p) (omega arith)
 
--- so that its bit can be added
-pub map_fits : (ids : List ℕ) (p : ℕ) → length ids ≡ 16 → p < 16 → get_or ids p 0 ≡ 0 → taken_map ids + 2 ^ p < 65536
-map_fits ids p n h e =
+-- whatever is put in a place, the map of sixteen fits 16 bits
+pub map_fits : (ids : List ℕ) (p i : ℕ) → length ids ≡ 16 → taken_map (set ids p i) < 65536
+map_fits ids p i n = let k = map_small (set ids p i) in rw (length-set ids p i, n) at k
+
+-- so that an empty place's bit can be added
+pub map_rises_fits : (ids : List ℕ) (p : ℕ) → length ids ≡ 16 → p < 16 → get_or ids p 0 ≡ 0 → taken_map ids + 2 ^ p < 65536
+map_rises_fits ids p n h e =
     let l : p < length ids = omega arith in
-    let k = map_small (set ids p 1) in
-    rw (map_taken ids p 1 l e (λ z. cc), length-set ids p 1, n) at k
+    let k = map_fits ids p 1 n in
+    rw (map_taken ids p 1 l e (λ z. cc)) at k
 
 -- a taken place is emptied
 pub map_left : (ids : List ℕ) (p : ℕ) → p < length ids → (get_or ids p 0 ≡ 0 → ⊥) → taken_map (set ids p 0) + 2 ^ p ≡ taken_map ids
@@ -51,4 +55,4 @@ map_left ids p h n =
 pub map_holds : (ids : List ℕ) (p : ℕ) → p < length ids → (get_or ids p 0 ≡ 0 → ⊥) → 2 ^ p ≤ taken_map ids
 map_holds ids p h n = omega (arith, map_left ids p h n)
 
-pub ruleset bits = (map_taken, map_fits, map_left, map_holds)
+pub ruleset bits = (map_taken, map_rises_fits, map_left, map_holds)

@@ -24,6 +24,11 @@ module _ {Row Key : Type 0} (t : RowsOf Row Key) (right : Row → Bool) (same : 
     unfolding table_sound pass
     too_many_bytes h = rw (le-leb _ _ few, lt-leb _ _ h)
 
+    -- a byte past the end isn't zero
+    pub bytes_left : used.bytes ≤ 4096 → all_zero (drop used.bytes values) ≡ false → false ≡ table_sound t right same rows values used
+    unfolding table_sound bytes_and_rows pass
+    bytes_left fits z = rw (le-leb _ _ few, le-leb _ _ fits, z)
+
     pub parts : used.bytes ≤ 4096 → every t.is_blank (drop used.rows rows) ≡ true
         → table_sound t right same rows values used
         ≡ all_zero (take (length values - used.bytes) (drop used.bytes values))

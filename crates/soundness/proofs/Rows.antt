@@ -9,7 +9,7 @@ use native.Mathlib.Numerals.{add-one}
 use lib.Dec.{eqb, leb}
 use lib.ListN.{length, get_or, drop, drop_of_length-le}
 use lib.Seq.{drop-cons, take-length}
-use borrow.Author.Tests.{eqb-true, le-leb}
+use borrow.Author.Tests.{eqb-true, leb-true, le-leb}
 use Rattle.ideal.specs.State.{Entry, every}
 use Rattle.ideal.specs.Tables.{RowsOf, entry_of, entries_of}
 use Rattle.ideal.specs.Fit.{RowsFit}
@@ -44,6 +44,11 @@ module _ {Row Key : Type 0} (t : RowsOf Row Key) where
         && rows_sound t right end (at + t.size (get_or rows i t.blank)) (drop (i + 1) rows)
     unfolding rows_sound
     rows_step end at rows i h = rw (drop-cons rows i t.blank h, add-one i)
+
+    -- a sound row holds a value's 256 bytes at most
+    pub right_short : (at : ℕ) (r : Row) → row_sound t right at r ≡ true → t.size r ≤ 256
+    unfolding row_sound
+    right_short at r h = leb-true _ _ (and_left (leb (t.size r) 256) _ (and_right (eqb (t.first r) at) _ h))
 
     -- the next row begins where a sound row ends
     pub rows_more : (end at : ℕ) (rows : List Row) (i : ℕ) → i < length rows → row_sound t right at (get_or rows i t.blank) ≡ true

@@ -1,4 +1,4 @@
-// What goes in and comes back by value, a fresh box, whether a table has room, and a table after an edit.
+// What a call gives: its answer, the box record and the row that it puts; its refusals; a fresh box; whether a table has room.
 
 #![tactic(auto)]
 

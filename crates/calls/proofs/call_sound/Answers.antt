@@ -5,7 +5,7 @@ use Rattle.calls.proofs.call_sound.Goals as goal
 
 pub returns-in-Ok-clause-output_after : goal.returns-in-Ok-clause-output_after
 returns-in-Ok-clause-output_after c =
-    with_used_lem c.args.log.now c.args.escrow.now (rw c.change_of.ensures at c.with_used.ensures) c.carry_out_in-outcome.ensures.output_after
+    with_used_lem c.args.log.now c.args.escrow.now c.with_used.ensures c.carry_out_in-change.ensures.output_after
     (whole_read _ _ _ _ _ c.read_call.ensures.result_value _ c.in-Ok.is)
 
 pub returns-in-Err-Cut-clause-output_after : goal.returns-in-Err-Cut-clause-output_after

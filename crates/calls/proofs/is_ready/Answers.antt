@@ -21,7 +21,7 @@ box_sound-requires-clause-lent c =
 pub returns-then-sizes_right : goal.returns-then-sizes_right
 unfolding ready_on
 returns-then-sizes_right c =
-    c.box_sound.ensures c.args.lent.now.shared.now
+    c.box_sound.ensures c.args.shared.now
     ∙ rw (sym (c.sizes_right.ensures _ _ _ (counted (goal.at.returns-then-sizes_right c).Start)) ∙ c.if-sizes_right.true)
 
 pub returns-else-sizes_right : goal.returns-else-sizes_right

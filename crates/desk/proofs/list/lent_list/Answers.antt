@@ -6,16 +6,16 @@ use Rattle.calls.proofs.Whole.{ready_sound, not_ready}
 use Rattle.rows.proofs.Unfitting.{fitting, rest_blank, log_unsound, escrow_unsound}
 use Rattle.desk.proofs.Unasked.{unready_list, unasked_list}
 use Rattle.desk.proofs.list.lent_list.Goals as goal
-use Rattle.desk.proofs.list.lent_list.Goals.{then-none_asks-via-then-none_asks as asks-none, then-none_asks-via-else-none_asks+then-log_unfit as log-unfit, then-none_asks-via-else-none_asks+else-log_unfit+then-escrow_unfit as escrow-unfit, then-none_asks-via-else-none_asks+else-log_unfit+else-escrow_unfit+then-not-is_ready as not-ready}
+use Rattle.desk.proofs.list.lent_list.Goals.{then-none_asks-via-then-none_asks as asks-none, then-none_asks-via-else-none_asks+then-log_unfit as log-unfit, then-none_asks-via-else-none_asks+else-log_unfit+then-escrow_unfit as escrow-unfit, then-none_asks-via-else-none_asks+else-log_unfit+else-escrow_unfit+then-not-is_ready_in as not-ready}
 
-pub is_ready-requires-clause-counted : goal.is_ready-requires-clause-counted
-is_ready-requires-clause-counted c = ((fitting log_table _ _ (sym c.if-log_unfit.ensures)).0, (fitting escrow_table _ _ (sym c.if-escrow_unfit.ensures)).0)
+pub is_ready_in-requires-clause-counted : goal.is_ready_in-requires-clause-counted
+is_ready_in-requires-clause-counted c = ((fitting log_table _ _ (sym c.if-log_unfit.ensures)).0, (fitting escrow_table _ _ (sym c.if-escrow_unfit.ensures)).0)
 
-pub is_ready-requires-clause-rest_blank : goal.is_ready-requires-clause-rest_blank
-is_ready-requires-clause-rest_blank c = rest_blank _ (fitting log_table _ _ (sym c.if-log_unfit.ensures)) (fitting escrow_table _ _ (sym c.if-escrow_unfit.ensures))
+pub is_ready_in-requires-clause-rest_blank : goal.is_ready_in-requires-clause-rest_blank
+is_ready_in-requires-clause-rest_blank c = rest_blank _ (fitting log_table _ _ (sym c.if-log_unfit.ensures)) (fitting escrow_table _ _ (sym c.if-escrow_unfit.ensures))
 
 pub list_sound-requires-clause-sound : goal.list_sound-requires-clause-sound
-list_sound-requires-clause-sound c = ready_sound _ _ (sym c.if-not-is_ready.ensures)
+list_sound-requires-clause-sound c = ready_sound _ _ (sym c.if-not-is_ready_in.ensures)
 
 pub returns-then-none_asks-clause-leaves : goal.returns-then-none_asks-clause-leaves
 returns-then-none_asks-clause-leaves c =
@@ -27,5 +27,5 @@ returns-then-none_asks-clause-leaves c =
       | asks-none w ↦ rw (unasked_list t n x.tanks.now (sym w.if-none_asks.ensures))
       | log-unfit w ↦ rw (unready_list t n (log_unsound t n (sym w.if-log_unfit.ensures)) x.tanks.now)
       | escrow-unfit w ↦ rw (unready_list t n (escrow_unsound t n (sym w.if-escrow_unfit.ensures)) x.tanks.now)
-      | not-ready w ↦ rw (unready_list t n (not_ready t n (sym w.if-not-is_ready.ensures)) x.tanks.now)
+      | not-ready w ↦ rw (unready_list t n (not_ready t n (sym w.if-not-is_ready_in.ensures)) x.tanks.now)
     ])
